@@ -1,0 +1,71 @@
+-- Lines from the front, and the first bad one.
+use Rattle.std.proofs.Common.{◌≡◌, ◌≢◌, ℕ, zero, suc, ◌+◌, ◌-◌, ◌==◌, ◌<◌, ◌≤◌, Bool, true, false, cond, not, List, [], ◌∷◌, ◌++◌, length, take, drop, refl, sym, ap, ◌∙◌, subst, arith, add-one, append-nil, length-append}
+use Rattle.std.specs.Prelude.{replicate, slice_get, Some, None, min, unwrap_or}
+use Rattle.std.specs.List.{position_or_len, prefix_len, position}
+use Rattle.std.proofs.Math.Nat.{min_comm}
+use Rattle.std.proofs.lemmas.List.{append_assoc, drop_min, replicate_more}
+use Rattle.std.proofs.lemmas.List.Sums.{prefix_len-le-length}
+use Rattle.std.proofs.lemmas.Grind.{common_steps}
+use Rattle.stage_run.specs.Script.{is_line_end, onto_first, lines_of, frame_word, IsScript, IsBadLine, IsFirstBadLine}
+
+-- a text whose first line is told, with one more byte in front
+lines-longer : (byte : ℕ) (bytes line : List ℕ) (lines : List (List ℕ)) → is_line_end byte ≡ false → lines_of bytes ≡ line ∷ lines → lines_of (byte ∷ bytes) ≡ (byte ∷ line) ∷ lines
+lines-longer byte bytes line lines e known = rw (e, known) refl
+
+len-longer : (byte : ℕ) (bytes : List ℕ) → is_line_end byte ≡ false → position_or_len is_line_end (byte ∷ bytes) ≡ suc (position_or_len is_line_end bytes)
+len-longer byte bytes e = rw e (omega arith)
+
+-- a text's first line is what stands before its first LF
+pub lines-first : (bytes : List ℕ) → 0 < length bytes → lines_of bytes ≡ take (position_or_len is_line_end bytes) bytes ∷ lines_of (drop (suc (position_or_len is_line_end bytes)) bytes)
+lines-first [] some = absurd (omega arith)
+lines-first (byte ∷ []) some =
+    let at : (ends : Bool) → is_line_end byte ≡ ends → lines_of (byte ∷ []) ≡ take (position_or_len is_line_end (byte ∷ [])) (byte ∷ []) ∷ lines_of (drop (suc (position_or_len is_line_end (byte ∷ []))) (byte ∷ []))
+        = λ ends. elim ends as (λ b. is_line_end byte ≡ b → lines_of (byte ∷ []) ≡ take (position_or_len is_line_end (byte ∷ [])) (byte ∷ []) ∷ lines_of (drop (suc (position_or_len is_line_end (byte ∷ []))) (byte ∷ [])))
+            [ true ↦ λ e. rw e refl | false ↦ λ e. rw e refl ]
+    in at (is_line_end byte) refl
+lines-first (byte ∷ next ∷ bytes) some =
+    let at : (ends : Bool) → is_line_end byte ≡ ends → lines_of (byte ∷ next ∷ bytes) ≡ take (position_or_len is_line_end (byte ∷ next ∷ bytes)) (byte ∷ next ∷ bytes) ∷ lines_of (drop (suc (position_or_len is_line_end (byte ∷ next ∷ bytes))) (byte ∷ next ∷ bytes))
+        = λ ends. elim ends as (λ b. is_line_end byte ≡ b → lines_of (byte ∷ next ∷ bytes) ≡ take (position_or_len is_line_end (byte ∷ next ∷ bytes)) (byte ∷ next ∷ bytes) ∷ lines_of (drop (suc (position_or_len is_line_end (byte ∷ next ∷ bytes))) (byte ∷ next ∷ bytes)))
+            [ true ↦ λ e. rw e refl
+            | false ↦ λ e. rw (len-longer byte (next ∷ bytes) e) (lines-longer byte (next ∷ bytes) _ _ e (lines-first (next ∷ bytes) (omega arith))) ]
+    in at (is_line_end byte) refl
+
+-- the first LF's place, or the text's length
+pub line_len-position : (bytes : List ℕ) → unwrap_or (position is_line_end bytes) (length bytes) ≡ position_or_len is_line_end bytes
+line_len-position bytes =
+    let within : position_or_len is_line_end bytes ≤ length bytes = prefix_len-le-length (λ byte. not (is_line_end byte)) bytes in
+    grind (arith, common_steps)
+
+-- a text's first line, and the lines from the place behind its LF, cut at the text's end
+pub lines-split : (bytes : List ℕ) (end next : ℕ) → 0 < length bytes → end ≡ position_or_len is_line_end bytes → next ≡ min (length bytes) (end + 1)
+    → lines_of bytes ≡ take end bytes ∷ lines_of (take (length bytes - next) (drop next bytes))
+lines-split bytes end next some at after =
+    let all : take (length bytes - next) (drop next bytes) ≡ drop next bytes = grind (arith, common_steps) in
+    let cut : drop next bytes ≡ drop (suc end) bytes = rw (after, min_comm, drop_min, add-one) refl in
+    rw (all, cut, at) (lines-first bytes some)
+
+-- the element behind equal ones
+get-behind_replicate : (n : ℕ) (x y : List ℕ) (ys : List (List ℕ)) → slice_get (replicate n x ++ y ∷ ys) n ≡ Some y
+get-behind_replicate zero x y ys = refl
+get-behind_replicate (suc n) x y ys = get-behind_replicate n x y ys
+
+take-replicate_front : (n : ℕ) (x : List ℕ) (ys : List (List ℕ)) → take n (replicate n x ++ ys) ≡ replicate n x
+take-replicate_front zero x ys = refl
+take-replicate_front (suc n) x ys = ap (λ l. x ∷ l) (take-replicate_front n x ys)
+
+-- a bad line behind good ones is the first bad one
+pub first_bad : (bytes line after : List ℕ) (count : ℕ) → lines_of bytes ≡ replicate count frame_word ++ line ∷ lines_of after → count ≤ 100000 → (line ≡ frame_word → count + 1 ≡ 100001) → IsFirstBadLine bytes (count + 1)
+first_bad bytes line after count known few bad =
+    let before : count + 1 - 1 ≡ count = omega arith in
+    record {
+      counted = omega arith;
+      near = omega arith;
+      good_before = rw (before, known) (take-replicate_front count frame_word (line ∷ lines_of after));
+      bad = rw (before, known, get-behind_replicate count frame_word line (lines_of after)) bad;
+    }
+
+-- one more good line behind good ones
+pub one_more : (bytes line after : List ℕ) (count : ℕ) → lines_of bytes ≡ replicate count frame_word ++ line ∷ lines_of after → count ≤ 100000 → count ≢ 100000 → line ≡ frame_word
+    → (count + 1 ≤ 100000) × (lines_of bytes ≡ replicate (count + 1) frame_word ++ lines_of after)
+one_more bytes line after count known few not_most same =
+    (omega arith, known ∙ ap (λ l. replicate count frame_word ++ l ∷ lines_of after) same ∙ sym (append_assoc (replicate count frame_word) (frame_word ∷ []) (lines_of after)) ∙ ap (λ l. l ++ lines_of after) (replicate_more count frame_word))

@@ -1,0 +1,143 @@
+-- Why a run ended as it did.
+use Rattle.std.specs.Prelude.{◌≡◌, ℕ, ◌+◌, ◌<◌, ◌≤◌, ◌⊎◌, List, [], length, Option, None, Some, IfSome}
+use Rattle.std.specs.FinMap.{get}
+use Rattle.std.specs.Io.KnownBytes.{Keeps, Appends}
+use Rattle.outside.specs.Bytes.{AppendsPart}
+use Rattle.outside.specs.Count.{Rose}
+use Rattle.outside.specs.Store.{Store}
+use Rattle.qml_parse.specs.declared.document.RectDecl.{RectDecl}
+use Rattle.qml_parse.specs.declared.fault.DocFault.{DocFault}
+use Rattle.qml_parse.specs.declared.fault.DocFault.TheVariants as doc
+use Rattle.qml_parse.specs.declared.fault.LoadFault.{LoadFault}
+use Rattle.qml_parse.specs.declared.fault.LoadFault.TheVariants as load
+use Rattle.qml_parse.specs.Grammar.{IsSpelled}
+use Rattle.qml_parse.specs.Meaning.{IsLawfulTree, IsDocument}
+use Rattle.qml_parse.specs.Tree.{Members}
+use Rattle.stage_run.specs.declared.journal.Move.{Move}
+use Rattle.stage_run.specs.declared.status.Status.{Status}
+use Rattle.stage_run.specs.declared.status.Status.TheVariants as status
+use Rattle.stage_run.specs.Moves.{commands}
+use Rattle.stage_run.specs.Script.{IsScript, IsFirstBadLine}
+use Rattle.stage_run.specs.Words.{main_of, script_of, AreLawful}
+use Rattle.stage_run.specs.Written.{written}
+
+-- bytes of a script, at most 4 MiB; bytes of a document, at most 1 MiB
+abbrev pub script_limit : ℕ
+script_limit = 4194304
+
+abbrev pub document_limit : ℕ
+document_limit = 1048576
+
+-- the file is a script of so many commands
+abbrev pub HasScript : Option (List ℕ) → ℕ → Type 0
+HasScript None count = ⊥
+HasScript (Some bytes) count = (length bytes ≤ script_limit) × IsScript bytes count
+
+-- the file is missing or too long, said as line 0, or this is its first bad line
+abbrev pub HasBadScript : Option (List ℕ) → ℕ → Type 0
+HasBadScript None line = line ≡ 0
+HasBadScript (Some bytes) line =
+    ((script_limit < length bytes) × (line ≡ 0)) ⊎ ((length bytes ≤ script_limit) × IsFirstBadLine bytes line)
+
+-- the file is a document of this tree
+abbrev pub HasTree : Option (List ℕ) → Members → Type 0
+HasTree None tree = ⊥
+HasTree (Some bytes) tree = (length bytes ≤ document_limit) × IsSpelled bytes tree × IsLawfulTree tree
+
+-- the file is a text of another form
+abbrev pub HasNoTree : Option (List ℕ) → Type 0
+HasNoTree None = ⊥
+HasNoTree (Some bytes) = (length bytes ≤ document_limit) × ((d : List RectDecl) → IsDocument bytes d → ⊥)
+
+abbrev pub IsTooLong : Option (List ℕ) → Type 0
+IsTooLong None = ⊥
+IsTooLong (Some bytes) = document_limit < length bytes
+
+-- a fault of the document of this name, as it can be without a look into the files
+abbrev pub IsFaultOf : List ℕ → LoadFault → Type 0
+IsFaultOf main (load.Missing name) = name ≡ main
+IsFaultOf main (load.TooLong name) = name ≡ main
+IsFaultOf main (load.Doc name doc.NoMemory) = ⊥
+IsFaultOf main (load.Doc name (doc.Unsupported at)) = (name ≡ main) × (at ≡ record { line = 1; col = 1 })
+
+-- the file has this fault
+abbrev pub HasFault : Option (List ℕ) → LoadFault → Type 0
+HasFault file (load.Missing name) = file ≡ None
+HasFault file (load.TooLong name) = IsTooLong file
+HasFault file (load.Doc name fault) = HasNoTree file
+
+-- where the files are told, the script has `count` commands and the document is this tree
+abbrev pub Accepts : Option Store → List (List ℕ) → ℕ → Members → Type 0
+Accepts held words count tree =
+    IfSome held (λ files. HasScript (get files (script_of words)) count × HasTree (get files (main_of words)) tree)
+
+-- why there are no commands: what the script's file has, or a failed read
+abbrev pub RefusesScript : Option Store → List ℕ → ℕ → ℕ → Status → Type 0
+RefusesScript held name before after status.Done = ⊥
+RefusesScript held name before after status.Usage = ⊥
+RefusesScript held name before after (status.BadScript line) = (line ≤ 100001) × IfSome held (λ files. HasBadScript (get files name) line)
+RefusesScript held name before after (status.BadDocument fault) = ⊥
+RefusesScript held name before after status.ReadFault = Rose before after
+RefusesScript held name before after status.WriteFault = ⊥
+RefusesScript held name before after status.NoMemory = Unit {0}
+
+-- why there is no document: a fault of the document's file, or a failed read
+abbrev pub RefusesDocument : Option Store → List ℕ → ℕ → ℕ → Status → Type 0
+RefusesDocument held name before after status.Done = ⊥
+RefusesDocument held name before after status.Usage = ⊥
+RefusesDocument held name before after (status.BadScript line) = ⊥
+RefusesDocument held name before after (status.BadDocument fault) = IsFaultOf name fault × IfSome held (λ files. HasFault (get files name) fault)
+RefusesDocument held name before after status.ReadFault = Rose before after
+RefusesDocument held name before after status.WriteFault = ⊥
+RefusesDocument held name before after status.NoMemory = Unit {0}
+
+-- what a run took and left: the words, the files, the counts of faults before and after, the bytes of
+-- the frames before and after, and the moves
+pub record Run : Type 0 where
+  pub words : List (List ℕ)
+  pub held : Option Store
+  pub reads_before : ℕ
+  pub reads_after : ℕ
+  pub writes_before : ℕ
+  pub writes_after : ℕ
+  pub frames_before : Option (List ℕ)
+  pub frames_after : Option (List ℕ)
+  pub journal : List Move
+
+-- nothing moved and nothing was written
+pub record IsIdle (r : Run) : Type 0 where
+  pub no_moves : r.journal ≡ []
+  pub no_bytes : Keeps r.frames_before r.frames_after
+
+-- every command of an accepted script was applied, and the frames are those of an accepted document
+pub record IsWhole (r : Run) (count : ℕ) (tree : Members) : Type 0 where
+  pub few : count ≤ 100000
+  pub accepted : Accepts r.held r.words count tree
+  pub moves : r.journal ≡ commands count
+  pub bytes : Appends r.frames_before r.frames_after (written tree r.journal)
+
+-- the first commands of an accepted script were applied, and a prefix of their frames was written
+pub record IsPart (r : Run) (count done : ℕ) (tree : Members) : Type 0 where
+  pub few : count ≤ 100000
+  pub within : done ≤ count
+  pub accepted : Accepts r.held r.words count tree
+  pub moves : r.journal ≡ commands done
+  pub bytes : AppendsPart r.frames_before r.frames_after (written tree r.journal)
+
+-- the cause of each status, after lawful words
+abbrev pub Ends : Run → Status → Type 0
+Ends r status.Done = (count : ℕ) × (tree : Members) × IsWhole r count tree
+Ends r status.Usage = ⊥
+Ends r (status.BadScript line) =
+    IsIdle r × (line ≤ 100001) × IfSome r.held (λ files. HasBadScript (get files (script_of r.words)) line)
+Ends r (status.BadDocument fault) =
+    IsIdle r × IsFaultOf (main_of r.words) fault
+    × IfSome r.held (λ files. ((count : ℕ) × HasScript (get files (script_of r.words)) count) × HasFault (get files (main_of r.words)) fault)
+Ends r status.ReadFault = IsIdle r × Rose r.reads_before r.reads_after
+Ends r status.WriteFault = Rose r.writes_before r.writes_after × ((count : ℕ) × (done : ℕ) × (tree : Members) × IsPart r count done tree)
+Ends r status.NoMemory = IsIdle r ⊎ ((count : ℕ) × (done : ℕ) × (tree : Members) × IsPart r count done tree)
+
+-- the words aren't lawful and nothing moved, or they are and the status has its cause
+abbrev pub HasCause : Run → Status → Type 0
+HasCause r status.Usage = IsIdle r × (AreLawful r.words → ⊥)
+HasCause r other = AreLawful r.words × Ends r other

@@ -1,0 +1,16 @@
+//! The whole run of the program: words, script and document in, frames out, with a cause for every
+//! answer.
+#![tactic(auto)]
+
+pub mod journal;
+mod painter;
+mod script;
+mod sources;
+pub mod stage;
+pub mod status;
+pub mod words;
+
+pub use journal::{Journal, Move};
+pub use stage::{Outcome, run};
+pub use status::{Status, exit_of, status_line};
+pub use words::Words;

@@ -1,0 +1,1 @@
+pub const SCRIPT_LIMIT: usize = 4194304;

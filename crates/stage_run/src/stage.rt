@@ -1,0 +1,2 @@
+pub struct Outcome;
+pub fn run() {}
