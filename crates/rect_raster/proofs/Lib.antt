@@ -1,0 +1,2 @@
+mod Clipping
+mod Rows
