@@ -1,6 +1,7 @@
 -- A store of files, and what a fetch says of it.
 use Rattle.std.specs.Prelude.{◌≡◌, ℕ, ◌<◌, ◌≤◌, List, [], length, Option, None, Some, IfSome}
 use Rattle.std.specs.Ordering.{nat_cmp}
+use Rattle.std.specs.Cmp.Lexicographic.{slice_cmp}
 use Rattle.std.specs.FinMap.{FinMap, get}
 use Rattle.outside.specs.declared.files.Fetch.{Fetch}
 use Rattle.outside.specs.declared.files.Fetch.TheVariants.{Found, Missing, TooLong, Failed, NoMemory}
