@@ -2,7 +2,7 @@
 use Rattle.std.specs.Prelude.{ℕ, ◌+◌, ◌-◌, ◌*◌, ◌/◌, ◌%◌, ◌^◌, ℤ, pos, Bool, ◌&&◌, if◌then◌else◌, int_le, int_lt, List, map, fold}
 use Rattle.std.specs.List.{range_with_len}
 use Rattle.rect_raster.specs.declared.clip_rect.ClipRect.{ClipRect}
-use Rattle.rect_raster.specs.Picture.{Picture, byte_count, ppm}
+use Rattle.rect_raster.specs.Picture.{Picture, picture_of, byte_count, ppm}
 
 -- a rectangle and its colour: alpha, red, green and blue, from the highest byte to the lowest
 pub record Shape : Type 0 where
@@ -45,11 +45,8 @@ byte_at width shapes k = channel_at shapes (k / 3 % width) (k / 3 / width) (k % 
 
 -- the picture that shapes, painted in order over white, make
 unfoldable pub drawing : ℕ → ℕ → List Shape → Picture
-drawing width height shapes = record {
-  width = width;
-  height = height;
-  pixels = map (byte_at width shapes) (range_with_len 0 (byte_count width height));
-}
+drawing width height shapes =
+    picture_of width height (map (byte_at width shapes) (range_with_len 0 (byte_count width height)))
 
 -- that picture as a binary pixmap
 abbrev pub frame : ℕ → ℕ → List Shape → List ℕ

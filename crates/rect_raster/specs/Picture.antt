@@ -8,6 +8,9 @@ pub record Picture : Type 0 where
   pub height : ℕ
   pub pixels : List ℕ
 
+abbrev pub picture_of : ℕ → ℕ → List ℕ → Picture
+picture_of width height pixels = record { width = width; height = height; pixels = pixels }
+
 -- how many bytes the pixels take
 abbrev pub byte_count : ℕ → ℕ → ℕ
 byte_count width height = 3 * (width * height)

@@ -1,8 +1,14 @@
-ghost use Rattle.std.specs.Prelude.{◌≡◌, ℕ, ◌*◌, ◌^◌, ◌≤◌, List, [], ◌∷◌, ◌++◌, IfOk};
+ghost use Rattle.std.specs.Prelude.{◌≡◌, ℕ, ◌*◌, ◌^◌, ◌≤◌, List, [], ◌∷◌, ◌++◌, IfOk, OnOk, OnErr};
+ghost use Rattle.std.specs.Io.KnownBytes.{Appends};
+ghost use Rattle.outside.specs.Bytes.{AppendsPart};
+ghost use Rattle.outside.specs.Count.{Rose};
+ghost use Rattle.rect_raster.specs.Picture.{ppm};
 ghost use Rattle.rect_raster.specs.Drawing.{Shape, shape_of, drawing};
 
 use std::alloc::{AllocError, Global};
 use std::marker::Model;
+
+use outside::{Sink, SinkFailed, write_whole};
 
 use crate::area::clipped;
 use crate::bytes::fill_area;
@@ -22,11 +28,11 @@ pub struct Canvas {
 impl Model for Canvas {
     ghost use Rattle.std.specs.Prelude.{◌≡◌, length};
     ghost use Rattle.std.specs.String.{string_bytes};
-    ghost use Rattle.rect_raster.specs.Picture.{Picture, byte_count, ppm_header};
+    ghost use Rattle.rect_raster.specs.Picture.{Picture, picture_of, byte_count, ppm_header};
 
     ghost Value = { Picture };
 
-    ghost view = { λ c. record { width = c.width; height = c.height; pixels = c.pixels.items } };
+    ghost view = { λ c. picture_of c.width c.height c.pixels.items };
 
     ghost invariant = {
         λ c. (string_bytes c.header ≡ ppm_header c.width c.height)
@@ -66,4 +72,18 @@ pub fn fill(canvas: &mut Canvas, rect: ClipRect, argb: u32)
     let area = clipped(rect, canvas.width, canvas.height);
     let width = canvas.width as usize;
     fill_area(&mut canvas.pixels, width, area, argb);
+}
+
+/// Writes a canvas as a binary pixmap, Netpbm's P6. It fails when the sink does, which has then got the
+/// first bytes of it.
+pub fn write_ppm<S: Sink>(canvas: &Canvas, sink: &mut S) -> Result<(), SinkFailed>
+    ensures whole { OnOk result (Appends (S.contents sink.old) (S.contents sink.new) (ppm canvas.now)) }
+    ensures part {
+        OnErr result (AppendsPart (S.contents sink.old) (S.contents sink.new) (ppm canvas.now))
+    }
+    ensures later { S.faults sink.old ≤ S.faults sink.new }
+    ensures failed { OnErr result (Rose (S.faults sink.old) (S.faults sink.new)) }
+{
+    write_whole(sink, canvas.header.as_bytes())?;
+    write_whole(sink, &canvas.pixels)
 }

@@ -6,5 +6,5 @@ mod bytes;
 pub mod canvas;
 pub mod clip_rect;
 
-pub use canvas::{Canvas, fill};
+pub use canvas::{Canvas, fill, write_ppm};
 pub use clip_rect::ClipRect;
