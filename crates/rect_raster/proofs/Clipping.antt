@@ -1,5 +1,5 @@
 -- Edges of a rectangle against the places of a canvas.
-use Rattle.std.proofs.Common.{◌≡◌, ℕ, ◌<◌, ◌&&◌, ℤ, pos, int_le, int_lt, nat_le, nat_lt, max, arith}
+use Rattle.std.proofs.Common.{◌≡◌, ℕ, ◌&&◌, ℤ, pos, int_le, int_lt, nat_le, nat_lt, max, arith}
 use Rattle.std.proofs.lemmas.Bool.Decides.{nat_tests}
 use Rattle.std.proofs.lemmas.Int.{ints}
 

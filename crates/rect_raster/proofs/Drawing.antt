@@ -1,7 +1,6 @@
 -- What one more opaque shape does to a drawing.
-use Rattle.std.proofs.Common.{◌≡◌, ℕ, ◌+◌, ◌-◌, ◌*◌, ◌/◌, ◌%◌, ◌^◌, ◌<◌, ◌≤◌, List, [], ◌∷◌, ◌++◌, length, get_or, cond, sym, ap, ◌∙◌, refl, arith}
-use Rattle.std.specs.Prelude.{replicate, map, fold}
-use Rattle.std.specs.List.{range_with_len}
+use Rattle.std.proofs.Common.{◌≡◌, ℕ, ◌*◌, ◌/◌, ◌%◌, ◌^◌, ◌<◌, ◌≤◌, List, [], ◌∷◌, ◌++◌, length, get_or, cond, sym, ap, ◌∙◌, refl, arith}
+use Rattle.std.specs.Prelude.{replicate}
 use Rattle.std.proofs.lemmas.List.{get_or-replicate, length-replicate}
 use Rattle.std.proofs.lemmas.List.Sums.{fold-append}
 use Rattle.std.proofs.lemmas.List.FromFn.{fill_by_all, get_or-map-range_with_len, length-map-range_with_len}
@@ -35,13 +34,13 @@ byte_at-nil width k = refl
 -- an opaque shape gives its pixels its colour
 pub byte_at-push : (width : ℕ) (shapes : List Shape) (area : ClipRect) (argb k : ℕ) → 255 * 2 ^ 24 ≤ argb → argb < 2 ^ 32
     → byte_at width (shapes ++ shape_of area argb ∷ []) k
-      ≡ cond (covers area (k / 3 % width) (k / 3 / width)) (channel_of argb (k % 3)) (byte_at width shapes k)
+    ≡ cond (covers area (k / 3 % width) (k / 3 / width)) (channel_of argb (k % 3)) (byte_at width shapes k)
 unfolding byte_at
 byte_at-push width shapes area argb k low high =
     channel_at-push shapes (shape_of area argb) (k / 3 % width) (k / 3 / width) (k % 3)
     ∙ ap (λ source. cond (covers area (k / 3 % width) (k / 3 / width)) source (channel_at shapes (k / 3 % width) (k / 3 / width) (k % 3)))
-        (ap (λ alpha. blended (channel_of argb (k % 3)) alpha (channel_at shapes (k / 3 % width) (k / 3 / width) (k % 3))) (alpha_of_opaque argb low high)
-            ∙ blended_opaque (channel_of argb (k % 3)) (channel_at shapes (k / 3 % width) (k / 3 / width) (k % 3)))
+    (ap (λ alpha. blended (channel_of argb (k % 3)) alpha (channel_at shapes (k / 3 % width) (k / 3 / width) (k % 3))) (alpha_of_opaque argb low high)
+    ∙ blended_opaque (channel_of argb (k % 3)) (channel_at shapes (k / 3 % width) (k / 3 / width) (k % 3)))
 
 -- a picture of this size whose bytes are the drawing's is the drawing
 pub drawing-from_bytes : (width height : ℕ) (shapes : List Shape) (pixels : List ℕ) → length pixels ≡ byte_count width height
@@ -57,7 +56,7 @@ pub drawing-nil : (width height : ℕ) (pixels : List ℕ) → pixels ≡ replic
     → picture_of width height pixels ≡ drawing width height []
 drawing-nil width height pixels white =
     drawing-from_bytes width height [] pixels (ap length white ∙ length-replicate (byte_count width height) 255)
-        (λ k h. ap (λ bs. get_or bs k 0) white ∙ get_or-replicate (byte_count width height) k 255 0 h ∙ sym (byte_at-nil width k))
+    (λ k h. ap (λ bs. get_or bs k 0) white ∙ get_or-replicate (byte_count width height) k 255 0 h ∙ sym (byte_at-nil width k))
 
 width-drawing : (width height : ℕ) (shapes : List Shape) → (drawing width height shapes).width ≡ width
 unfolding drawing
@@ -92,15 +91,15 @@ pub drawing-push : (rect : ClipRect) (area : Area) (argb width height : ℕ) (sh
 drawing-push rect area argb width height shapes old new low high was whole same filled =
     let full : length new ≡ byte_count width height = whole ∙ ap length was ∙ length-drawing width height shapes in
     drawing-from_bytes width height (shapes ++ shape_of rect argb ∷ []) new full
-        (λ k h.
-            let within = pixel_within width height k h in
-            let inside : covers rect (k / 3 % width) (k / 3 / width) ≡ has_byte area width k = same (k / 3 % width) (k / 3 / width) within.0 within.1 in
-            let bound : k < length new = omega arith in
-            let read = filled k bound in
-            let below : get_or old k 0 ≡ byte_at width shapes k = ap (λ bs. get_or bs k 0) was ∙ get_or-drawing width height shapes k h in
-            let pushed = byte_at-push width shapes rect argb k low high in
-            read ∙ ap (λ n. cond (has_byte area width k) (channel_of argb (k % 3)) n) below
-            ∙ ap (λ b. cond b (channel_of argb (k % 3)) (byte_at width shapes k)) (sym inside) ∙ sym pushed)
+    (λ k h.
+    let within = pixel_within width height k h in
+    let inside : covers rect (k / 3 % width) (k / 3 / width) ≡ has_byte area width k = same (k / 3 % width) (k / 3 / width) within.0 within.1 in
+    let bound : k < length new = omega arith in
+    let read = filled k bound in
+    let below : get_or old k 0 ≡ byte_at width shapes k = ap (λ bs. get_or bs k 0) was ∙ get_or-drawing width height shapes k h in
+    let pushed = byte_at-push width shapes rect argb k low high in
+    read ∙ ap (λ n. cond (has_byte area width k) (channel_of argb (k % 3)) n) below
+    ∙ ap (λ b. cond b (channel_of argb (k % 3)) (byte_at width shapes k)) (sym inside) ∙ sym pushed)
 
 -- the same of the canvas's picture, whose size is the drawing's
 pub picture-push : (rect : ClipRect) (area : Area) (argb width height : ℕ) (shapes : List Shape) (old new : Picture)

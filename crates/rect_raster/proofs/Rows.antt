@@ -1,5 +1,5 @@
 -- The bytes of a row's part, and of a canvas after a row is filled.
-use Rattle.std.proofs.Common.{◌≡◌, ℕ, ◌+◌, ◌-◌, ◌*◌, ◌/◌, ◌%◌, ◌<◌, ◌≤◌, ◌≢◌, ◌⊎◌, ⊎_elim, Bool, true, false, ◌&&◌, nat_le, nat_lt, List, length, get_or, EachIndex, sym, ap, ◌∙◌, refl, cond, subst, arith, rules}
+use Rattle.std.proofs.Common.{◌≡◌, ℕ, ◌+◌, ◌-◌, ◌*◌, ◌/◌, ◌%◌, ◌<◌, ◌≤◌, ⊎_elim, true, List, length, get_or, EachIndex, sym, ap, ◌∙◌, cond, arith, rules}
 use Rattle.std.proofs.lemmas.Bool.Decides.{nat_tests}
 use Rattle.std.proofs.lemmas.Nat.{div-mul-add, mod-mul-add, div-add-mod'}
 use Rattle.std.proofs.lemmas.List.{places}
@@ -92,6 +92,6 @@ module _ (area : Area) (width row argb : ℕ) (old before part : List ℕ) where
     Filled-more k h =
         let bound : k < length before = omega (arith, length-put_mid before part from count (omega arith) whole) in
         ⊎_elim (λ below. byte_past k bound (get_or-put_mid_below before part from count k (omega arith) below) (λ low high. omega arith))
-            (λ low. ⊎_elim (λ high. byte_in k low high)
-                (λ past. byte_past k bound (get_or-put_mid_above before part from count k (omega arith) whole past) (λ _ high. omega arith)) (cases_lt k (from + count)))
-            (cases_lt k from)
+        (λ low. ⊎_elim (λ high. byte_in k low high)
+        (λ past. byte_past k bound (get_or-put_mid_above before part from count k (omega arith) whole past) (λ _ high. omega arith)) (cases_lt k (from + count)))
+        (cases_lt k from)

@@ -1,5 +1,5 @@
 -- What a sink has got after the two pieces of a pixmap, or after a failure.
-use Rattle.std.proofs.Common.{◌≡◌, ℕ, List, ◌++◌, Option, Result, Ok, Err, OnOk, OnErr, sym, ap, ◌∙◌, subst}
+use Rattle.std.proofs.Common.{◌≡◌, ℕ, List, ◌++◌, Option, Result, Ok, Err, OnOk, OnErr, ap, ◌∙◌, subst}
 use Rattle.std.specs.Io.KnownBytes.{Appends}
 use Rattle.outside.specs.Bytes.{AppendsPart}
 use Rattle.outside.proofs.Appending.{Appends-append, AppendsPart-more, Appends-then_part}
@@ -23,10 +23,10 @@ module _ {T E : Type 0} (result : Result T E) (old mid new : Option (List ℕ)) 
   pub OnOk-second : Appends old mid first → OnOk result (Appends mid new second) → OnOk result (Appends old new all)
   OnOk-second p =
       elim result as (λ r. OnOk r (Appends mid new second) → OnOk r (Appends old new all))
-          [ Ok _ ↦ λ q. subst (Appends old new) joined (Appends-append old mid new first second p q) | Err _ ↦ λ _. tt ]
+      [ Ok _ ↦ λ q. subst (Appends old new) joined (Appends-append old mid new first second p q) | Err _ ↦ λ _. tt ]
 
   -- the second piece failed
   pub OnErr-second : Appends old mid first → OnErr result (AppendsPart mid new second) → OnErr result (AppendsPart old new all)
   OnErr-second p =
       elim result as (λ r. OnErr r (AppendsPart mid new second) → OnErr r (AppendsPart old new all))
-          [ Ok _ ↦ λ _. tt | Err _ ↦ λ q. subst (AppendsPart old new) joined (Appends-then_part old mid new first second p q) ]
+      [ Ok _ ↦ λ _. tt | Err _ ↦ λ q. subst (AppendsPart old new) joined (Appends-then_part old mid new first second p q) ]

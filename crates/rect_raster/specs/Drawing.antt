@@ -1,5 +1,5 @@
 -- What a list of rectangles, painted in order over white, looks like.
-use Rattle.std.specs.Prelude.{ℕ, ◌+◌, ◌-◌, ◌*◌, ◌/◌, ◌%◌, ◌^◌, ℤ, pos, Bool, ◌&&◌, if◌then◌else◌, int_le, int_lt, List, map, fold}
+use Rattle.std.specs.Prelude.{ℕ, ◌+◌, ◌-◌, ◌*◌, ◌/◌, ◌%◌, ◌^◌, pos, Bool, ◌&&◌, if◌then◌else◌, int_le, int_lt, List, map, fold}
 use Rattle.std.specs.List.{range_with_len}
 use Rattle.rect_raster.specs.declared.clip_rect.ClipRect.{ClipRect}
 use Rattle.rect_raster.specs.Picture.{Picture, picture_of, byte_count, ppm}

@@ -1,5 +1,5 @@
 -- A picture, and the bytes that it is written as.
-use Rattle.std.specs.Prelude.{◌≡◌, ℕ, ◌*◌, ◌^◌, ◌<◌, List, ◌++◌, length, codes}
+use Rattle.std.specs.Prelude.{ℕ, ◌*◌, List, ◌++◌, codes}
 use Rattle.std.specs.Fmt.{decimal}
 
 -- a picture of width times height pixels: three bytes a pixel, red, green and blue, by rows from the top

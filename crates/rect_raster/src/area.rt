@@ -33,10 +33,8 @@ pub(crate) fn clipped(rect: ClipRect, width: u32, height: u32) -> Area
     ensures within_height { result.bottom ≤ height }
 
     // It has the same pixels of the canvas as the rectangle.
-    ensures pixels {
-        (column row : ℕ) → column < width → row < height
-        → covers rect column row ≡ has_pixel result column row
-    }
+    ensures pixels { (column row : ℕ) → column < width → row < height
+        → covers rect column row ≡ has_pixel result column row }
 {
     let left = clamped(rect.left, width);
     let top = clamped(rect.top, height);

@@ -48,6 +48,9 @@ pub(crate) fn fill_area(pixels: &mut [u8], width: usize, area: Area, argb: u32)
 {
     for row in area.top..area.bottom {
         let start = row * width;
-        fill_row(&mut pixels[3 * (start + area.left)..3 * (start + area.right)], argb);
+        fill_row(
+            &mut pixels[3 * (start + area.left)..3 * (start + area.right)],
+            argb,
+        );
     }
 }

@@ -5,14 +5,12 @@ ghost use Rattle.outside.specs.Count.{Rose};
 ghost use Rattle.rect_raster.specs.Picture.{ppm};
 ghost use Rattle.rect_raster.specs.Drawing.{Shape, shape_of, drawing};
 
-use std::alloc::{AllocError, Global};
-use std::marker::Model;
-
-use outside::{Sink, SinkFailed, write_whole};
-
 use crate::area::clipped;
 use crate::bytes::fill_area;
 use crate::clip_rect::ClipRect;
+use outside::{Sink, SinkFailed, write_whole};
+use std::alloc::{AllocError, Global};
+use std::marker::Model;
 
 /// The pixels of a window. Contracts see it as a picture: its width and height in pixels, and three
 /// bytes a pixel, red, green and blue, by rows from the top.
@@ -34,10 +32,8 @@ impl Model for Canvas {
 
     ghost view = { λ c. picture_of c.width c.height c.pixels.items };
 
-    ghost invariant = {
-        λ c. (string_bytes c.header ≡ ppm_header c.width c.height)
-            × (length c.pixels.items ≡ byte_count c.width c.height)
-    };
+    ghost invariant = { λ c. (string_bytes c.header ≡ ppm_header c.width c.height)
+        × (length c.pixels.items ≡ byte_count c.width c.height) };
 }
 
 impl Canvas {
@@ -46,7 +42,9 @@ impl Canvas {
     pub fn new(alloc: Global, width: u32, height: u32) -> Result<Canvas, AllocError>
         ensures { IfOk result (λ canvas. canvas ≡ drawing width height []) }
     {
-        let size = (width as usize * height as usize).checked_mul(3).ok_or(AllocError)?;
+        let size = (width as usize * height as usize)
+            .checked_mul(3)
+            .ok_or(AllocError)?;
         let header = format!(in alloc; "P6\n{width} {height}\n255\n")?;
         let pixels = vec![in alloc; 255; size]?;
         Ok(Canvas {
@@ -64,10 +62,8 @@ pub fn fill(canvas: &mut Canvas, rect: ClipRect, argb: u32)
     requires { 255 * 2 ^ 24 ≤ argb }
 
     // Whatever shapes the canvas showed before, it shows those and then this one.
-    ensures drawn {
-        (width height : ℕ) (shapes : List Shape) → canvas.old ≡ drawing width height shapes
-        → canvas.new ≡ drawing width height (shapes ++ shape_of rect argb ∷ [])
-    }
+    ensures drawn { (width height : ℕ) (shapes : List Shape) → canvas.old ≡ drawing width height shapes
+        → canvas.new ≡ drawing width height (shapes ++ shape_of rect argb ∷ []) }
 {
     let area = clipped(rect, canvas.width, canvas.height);
     let width = canvas.width as usize;
@@ -78,12 +74,12 @@ pub fn fill(canvas: &mut Canvas, rect: ClipRect, argb: u32)
 /// first bytes of it.
 pub fn write_ppm<S: Sink>(canvas: &Canvas, sink: &mut S) -> Result<(), SinkFailed>
     ensures whole { OnOk result (Appends (S.contents sink.old) (S.contents sink.new) (ppm canvas.now)) }
-    ensures part {
-        OnErr result (AppendsPart (S.contents sink.old) (S.contents sink.new) (ppm canvas.now))
-    }
+    ensures part { OnErr result (AppendsPart (S.contents sink.old) (S.contents sink.new) (ppm canvas.now)) }
     ensures later { S.faults sink.old ≤ S.faults sink.new }
     ensures failed { OnErr result (Rose (S.faults sink.old) (S.faults sink.new)) }
 {
-    write_whole(sink, canvas.header.as_bytes())?;
-    write_whole(sink, &canvas.pixels)
+    let header = canvas.header.as_bytes();
+    let pixels = canvas.pixels.as_slice();
+    write_whole(sink, header)?;
+    write_whole(sink, pixels)
 }

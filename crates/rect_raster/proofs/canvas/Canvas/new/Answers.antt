@@ -1,6 +1,5 @@
-use Rattle.std.proofs.Common.{◌≡◌, ℕ, ◌*◌, ap, ◌∙◌, length, arith, rules}
+use Rattle.std.proofs.Common.{◌≡◌, ℕ, ap, ◌∙◌, rules}
 use Rattle.std.specs.Prelude.{replicate}
-use Rattle.std.proofs.lemmas.List.{length-replicate}
 use Rattle.rect_raster.specs.Picture.{ppm_header, byte_count}
 use Rattle.rect_raster.proofs.Drawing.{drawing-nil}
 use Rattle.rect_raster.proofs.canvas.Canvas.new.Goals as goal
