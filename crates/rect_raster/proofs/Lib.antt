@@ -1,0 +1,4 @@
+mod Clipping
+pub mod Drawing
+mod Rows
+mod Writing
