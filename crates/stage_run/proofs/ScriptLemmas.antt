@@ -1,5 +1,5 @@
 -- Lines from the front, and the first bad one.
-use Rattle.std.proofs.Common.{◌≡◌, ◌≢◌, ℕ, zero, suc, ◌+◌, ◌-◌, ◌==◌, ◌<◌, ◌≤◌, Bool, true, false, cond, not, List, [], ◌∷◌, ◌++◌, length, take, drop, refl, sym, ap, ◌∙◌, subst, arith, add-one, append-nil, length-append}
+use Rattle.std.proofs.Common.{◌≡◌, ◌≢◌, ℕ, zero, suc, ◌+◌, ◌-◌, ◌==◌, ◌<◌, ◌≤◌, ◌⊎◌, inl, inr, Bool, true, false, cond, not, List, [], ◌∷◌, ◌++◌, length, take, drop, refl, sym, ap, ◌∙◌, subst, arith, add-one, append-nil, length-append}
 use Rattle.std.specs.Prelude.{replicate, slice_get, Some, None, min, unwrap_or}
 use Rattle.std.specs.List.{position_or_len, prefix_len, position}
 use Rattle.std.proofs.Math.Nat.{min_comm}
@@ -69,3 +69,29 @@ pub one_more : (bytes line after : List ℕ) (count : ℕ) → lines_of bytes �
     → (count + 1 ≤ 100000) × (lines_of bytes ≡ replicate (count + 1) frame_word ++ lines_of after)
 one_more bytes line after count known few not_most same =
     (omega arith, known ∙ ap (λ l. replicate count frame_word ++ l ∷ lines_of after) same ∙ sym (append_assoc (replicate count frame_word) (frame_word ∷ []) (lines_of after)) ∙ ap (λ l. l ++ lines_of after) (replicate_more count frame_word))
+
+get-replicate : (n i : ℕ) (x : List ℕ) → i < n → slice_get (replicate n x) i ≡ Some x
+get-replicate zero i x inside = absurd (omega arith)
+get-replicate (suc n) zero x inside = refl
+get-replicate (suc n) (suc i) x inside = get-replicate n i x (omega arith)
+
+get-past_replicate : (n i : ℕ) (x : List ℕ) → n ≤ i → slice_get (replicate n x) i ≡ None
+get-past_replicate zero i x past = grind (arith, common_steps)
+get-past_replicate (suc n) zero x past = absurd (omega arith)
+get-past_replicate (suc n) (suc i) x past = get-past_replicate n i x (omega arith)
+
+lt_or_le : (a b : ℕ) → (a < b) ⊎ (b ≤ a)
+lt_or_le a zero = inr (omega arith)
+lt_or_le zero (suc b) = inl (omega arith)
+lt_or_le (suc a) (suc b) = elim (lt_or_le a b) [ inl below ↦ inl (omega arith) | inr above ↦ inr (omega arith) ]
+
+-- no line of a script is bad
+pub script_is_good : (bytes : List ℕ) (count line : ℕ) → IsScript bytes count → IsFirstBadLine bytes line → ⊥
+script_is_good bytes count line script bad =
+    elim (lt_or_le (line - 1) count) [
+        inl inside ↦
+            let told : IsBadLine (Some frame_word) line = rw (script.frames, get-replicate count (line - 1) frame_word inside) at bad.bad in
+            let few = script.few in let most : line ≡ 100001 = told refl in let counted = bad.counted in omega arith
+      | inr past ↦
+            let told : IsBadLine None line = rw (script.frames, get-past_replicate count (line - 1) frame_word past) at bad.bad in told
+    ]

@@ -139,5 +139,44 @@ Ends r status.NoMemory = IsIdle r ⊎ ((count : ℕ) × (done : ℕ) × (tree : 
 
 -- the words aren't lawful and nothing moved, or they are and the status has its cause
 abbrev pub HasCause : Run → Status → Type 0
+HasCause r status.Done = AreLawful r.words × Ends r status.Done
 HasCause r status.Usage = IsIdle r × (AreLawful r.words → ⊥)
-HasCause r other = AreLawful r.words × Ends r other
+HasCause r (status.BadScript line) = AreLawful r.words × Ends r (status.BadScript line)
+HasCause r (status.BadDocument fault) = AreLawful r.words × Ends r (status.BadDocument fault)
+HasCause r status.ReadFault = AreLawful r.words × Ends r status.ReadFault
+HasCause r status.WriteFault = AreLawful r.words × Ends r status.WriteFault
+HasCause r status.NoMemory = AreLawful r.words × Ends r status.NoMemory
+
+abbrev pub IsDoneOrNoMemory : Status → Type 0
+IsDoneOrNoMemory status.Done = Unit {0}
+IsDoneOrNoMemory status.Usage = ⊥
+IsDoneOrNoMemory (status.BadScript line) = ⊥
+IsDoneOrNoMemory (status.BadDocument fault) = ⊥
+IsDoneOrNoMemory status.ReadFault = ⊥
+IsDoneOrNoMemory status.WriteFault = ⊥
+IsDoneOrNoMemory status.NoMemory = Unit {0}
+
+-- told files with a lawful script and an accepted document, and no read or write that failed
+pub record IsSound (r : Run) (files : Store) : Type 0 where
+  pub told : r.held ≡ Some files
+  pub words : AreLawful r.words
+  pub count : ℕ
+  pub script : HasScript (get files (script_of r.words)) count
+  pub tree : Members
+  pub document : HasTree (get files (main_of r.words)) tree
+  pub reads : Rose r.reads_before r.reads_after → ⊥
+  pub writes : Rose r.writes_before r.writes_after → ⊥
+
+-- what a run took and left, from its parts
+abbrev pub run_of : List (List ℕ) → Option Store → ℕ → ℕ → ℕ → ℕ → Option (List ℕ) → Option (List ℕ) → List Move → Run
+run_of words held reads_before reads_after writes_before writes_after frames_before frames_after journal = record {
+  words = words;
+  held = held;
+  reads_before = reads_before;
+  reads_after = reads_after;
+  writes_before = writes_before;
+  writes_after = writes_after;
+  frames_before = frames_before;
+  frames_after = frames_after;
+  journal = journal;
+}

@@ -1,4 +1,5 @@
 pub mod Causes
+pub mod Flaws
 pub mod Moves
 pub mod Painting
 pub mod Places

@@ -2,7 +2,7 @@
 use Rattle.std.specs.Prelude.{ℕ, ◌+◌, List, [], ◌∷◌, ◌++◌, pos, None}
 use Rattle.qml_parse.specs.Tree.{Members, none, number, color, child}
 use Rattle.qml_parse.specs.Meaning.{own}
-use Rattle.rect_raster.specs.Picture.{Shape}
+use Rattle.rect_raster.specs.Drawing.{Shape}
 
 -- a Rectangle's own shape, in the window, where its parent stands at (left, top)
 unfoldable pub shape_within : ℕ → ℕ → Members → Shape

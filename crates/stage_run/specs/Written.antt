@@ -1,7 +1,8 @@
 -- What a run writes.
 use Rattle.std.specs.Prelude.{ℕ, zero, suc, List, [], ◌++◌, flat_map}
 use Rattle.qml_parse.specs.Tree.{Members}
-use Rattle.rect_raster.specs.Picture.{drawing, ppm}
+use Rattle.rect_raster.specs.Drawing.{drawing}
+use Rattle.rect_raster.specs.Picture.{ppm}
 use Rattle.stage_run.specs.declared.journal.Move.{Move}
 use Rattle.stage_run.specs.declared.journal.Move.TheVariants.{Command}
 use Rattle.stage_run.specs.Painting.{painted}

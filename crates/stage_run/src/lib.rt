@@ -2,6 +2,7 @@
 //! answer.
 #![tactic(auto)]
 
+mod frames;
 pub mod journal;
 mod painter;
 mod script;

@@ -2,7 +2,7 @@ ghost use Rattle.std.specs.Prelude.{◌≡◌, ℕ, ◌+◌, ◌*◌, ◌^◌, �
 ghost use Rattle.qml_parse.specs.Tree.{Members};
 ghost use Rattle.qml_parse.specs.Meaning.{flattened};
 ghost use Rattle.qml_parse.specs.Lawful.{IsLawfulAt};
-ghost use Rattle.rect_raster.specs.Picture.{drawing};
+ghost use Rattle.rect_raster.specs.Drawing.{drawing};
 ghost use Rattle.stage_run.specs.Painting.{painted};
 ghost use Rattle.stage_run.specs.Places.{place_of, area_of, AreNear};
 

@@ -1,1 +1,106 @@
-pub const SCRIPT_LIMIT: usize = 4194304;
+ghost use Rattle.std.specs.Prelude.{◌≡◌, ◌≤◌, length, IfOk, IfErr, IfSome, None};
+ghost use Rattle.std.specs.FinMap.{get};
+ghost use Rattle.qml_parse.specs.Tree.{Members};
+ghost use Rattle.qml_parse.specs.Meaning.{flattened, IsDocument};
+ghost use Rattle.stage_run.specs.Causes.{HasScript, HasTree, RefusesScript, RefusesDocument};
+ghost use Rattle.stage_run.specs.Flaws.{IsBadScriptAt, RefusesBytes, IsFlawOf};
+ghost use Rattle.stage_run.specs.Script.{IsScript};
+
+use crate::script::read_script;
+use crate::status::Status;
+use outside::{Fetch, Files};
+use qml_parse::{DocFault, Document, LoadFault, Name, Span, parse};
+use std::alloc::Global;
+
+/// The most bytes that a script may have.
+pub const SCRIPT_LIMIT: usize = 4_194_304;
+
+/// The most bytes that a document may have.
+pub const DOCUMENT_LIMIT: usize = 1_048_576;
+
+/// The number of commands of the script of this name, or why there is none: `BadScript` where the file
+/// is missing, too long or has a bad line, `ReadFault` where it could not be read, or `NoMemory`.
+pub fn fetch_script<F: Files>(alloc: Global, files: &mut F, name: &str) -> Result<u32, Status>
+    ensures held { F.held files.new ≡ F.held files.old }
+    ensures later { F.faults files.old ≤ F.faults files.new }
+    ensures few { IfOk result (λ count. count ≤ 100000) }
+    ensures read { IfOk result (λ count. IfSome (F.held files.old) (λ m. HasScript (get m name.now) count)) }
+    ensures refused { IfErr result (RefusesScript (F.held files.old) name.now (F.faults files.old) (F.faults files.new)) }
+{
+    let mut bytes = Vec::new(alloc);
+    match files.fetch(name, SCRIPT_LIMIT, &mut bytes) {
+        Fetch::Found => commands_of(bytes.as_slice()),
+        Fetch::Missing => Err(Status::BadScript { line: 0 }),
+        Fetch::TooLong => Err(Status::BadScript { line: 0 }),
+        Fetch::Failed => Err(Status::ReadFault),
+        Fetch::NoMemory => Err(Status::NoMemory),
+    }
+}
+
+fn commands_of(bytes: &[u8]) -> Result<u32, Status>
+    ensures read { IfOk result (IsScript bytes.now) }
+    ensures refused { IfErr result (IsBadScriptAt bytes.now) }
+{
+    match read_script(bytes) {
+        Ok(count) => Ok(count),
+        Err(line) => Err(Status::BadScript { line }),
+    }
+}
+
+/// The document of this name, or why there is none: `BadDocument` where the file is missing, too long
+/// or of another form, `ReadFault` where it could not be read, or `NoMemory`.
+pub fn fetch_document<F: Files>(alloc: Global, files: &mut F, name: &str) -> Result<Document, Status>
+    requires { length name.now ≤ 65536 }
+    ensures held { F.held files.new ≡ F.held files.old }
+    ensures later { F.faults files.old ≤ F.faults files.new }
+    ensures read { IfOk result (λ document. (tree : Members) × (document ≡ flattened None 0 tree) × IfSome (F.held files.old) (λ m. HasTree (get m name.now) tree)) }
+    ensures refused { IfErr result (RefusesDocument (F.held files.old) name.now (F.faults files.old) (F.faults files.new)) }
+{
+    let mut bytes = Vec::new(alloc);
+    match files.fetch(name, DOCUMENT_LIMIT, &mut bytes) {
+        Fetch::Found => document_of(alloc, name, bytes.as_slice()),
+        Fetch::Missing => Err(bad_document(alloc, name, Flaw::Missing)),
+        Fetch::TooLong => Err(bad_document(alloc, name, Flaw::TooLong)),
+        Fetch::Failed => Err(Status::ReadFault),
+        Fetch::NoMemory => Err(Status::NoMemory),
+    }
+}
+
+fn document_of(alloc: Global, name: &str, bytes: &[u8]) -> Result<Document, Status>
+    requires name { length name.now ≤ 65536 }
+    requires few { length bytes.now ≤ DOCUMENT_LIMIT }
+    ensures read { IfOk result (IsDocument bytes.now) }
+    ensures refused { IfErr result (RefusesBytes name.now bytes.now) }
+{
+    match parse(alloc, bytes) {
+        Ok(document) => Ok(document),
+        Err(DocFault::NoMemory) => Err(Status::NoMemory),
+        Err(DocFault::Unsupported { at }) => Err(bad_document(alloc, name, Flaw::Unsupported(at))),
+    }
+}
+
+/// What can be wrong with a document's file.
+#[derive(Clone, Copy, Debug)]
+enum Flaw {
+    Missing,
+    TooLong,
+    Unsupported(Span),
+}
+
+fn bad_document(alloc: Global, name: &str, flaw: Flaw) -> Status
+    requires { length name.now ≤ 65536 }
+    ensures { IsFlawOf name.now flaw result }
+{
+    let Ok(name) = Name::new(alloc, name) else {
+        return Status::NoMemory;
+    };
+    let fault = match flaw {
+        Flaw::Missing => LoadFault::Missing { name },
+        Flaw::TooLong => LoadFault::TooLong { name },
+        Flaw::Unsupported(at) => LoadFault::Doc {
+            name,
+            fault: DocFault::Unsupported { at },
+        },
+    };
+    Status::BadDocument { fault }
+}

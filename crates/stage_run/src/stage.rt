@@ -1,2 +1,79 @@
-pub struct Outcome;
-pub fn run() {}
+ghost use Rattle.std.specs.Prelude.{◌≡◌, ◌≤◌, [], OnOk, IfErr};
+ghost use Rattle.outside.specs.Store.{Store};
+ghost use Rattle.stage_run.specs.Causes.{Ends, HasCause, IsDoneOrNoMemory, IsSound, run_of};
+ghost use Rattle.stage_run.specs.Words.{AreLawful};
+ghost use Rattle.stage_run.specs.declared.status.Status.TheVariants as statuses;
+
+use crate::frames::write_frames;
+use crate::journal::Journal;
+use crate::painter::draw;
+use crate::sources::{fetch_document, fetch_script};
+use crate::status::Status;
+use crate::words::Words;
+use outside::{Files, Sink};
+use std::alloc::Global;
+
+/// How a run ended, and what it gives back.
+#[derive(Drop)]
+pub struct Outcome<F, S, N> {
+    pub status: Status,
+    pub files: F,
+    pub frames: S,
+    pub notes: N,
+    pub journal: Journal,
+}
+
+/// Runs the script of the words on their document: for each `frame` line of the script one image of
+/// 640 by 480 pixels goes to `frames`, as a binary pixmap (Netpbm P6). Nothing goes to `notes`.
+///
+/// The first of these that fails gives the status: the words; the fetch of the script, of at most 4 MiB;
+/// its lines; the fetch of the document, of at most 1 MiB; its form; each frame's write. `NoMemory` may
+/// stand in place of any but `Usage`.
+pub fn run<F: Files, S: Sink, N: Sink>(alloc: Global, words: &Words, files: F, frames: S, notes: N) -> Outcome<F, S, N>
+    ensures files { F.held result.files ≡ F.held files }
+    ensures notes { result.notes ≡ notes }
+    ensures cause { HasCause (run_of words.now (F.held files) (F.faults files) (F.faults result.files) (S.faults frames) (S.faults result.frames) (S.contents frames) (S.contents result.frames) result.journal) result.status }
+    ensures usage { (AreLawful words.now → ⊥) → result.status ≡ statuses.Usage }
+    ensures complete { (m : Store) → IsSound (run_of words.now (F.held files) (F.faults files) (F.faults result.files) (S.faults frames) (S.faults result.frames) (S.contents frames) (S.contents result.frames) result.journal) m → IsDoneOrNoMemory result.status }
+{
+    let mut files = files;
+    let mut frames = frames;
+    let mut journal = Journal::new(alloc);
+    let status = play(alloc, words, &mut files, &mut frames, &mut journal);
+    Outcome {
+        status,
+        files,
+        frames,
+        notes,
+        journal,
+    }
+}
+
+/// The run over a journal that is empty.
+fn play<F: Files, S: Sink>(alloc: Global, words: &Words, files: &mut F, frames: &mut S, journal: &mut Journal) -> Status
+    requires { journal.old ≡ [] }
+    ensures files { F.held files.new ≡ F.held files.old }
+    ensures cause { HasCause (run_of words.now (F.held files.old) (F.faults files.old) (F.faults files.new) (S.faults frames.old) (S.faults frames.new) (S.contents frames.old) (S.contents frames.new) journal.new) result }
+{
+    if !words.are_lawful() {
+        return Status::Usage;
+    }
+    match perform(alloc, words, files, frames, journal) {
+        Ok(()) => Status::Done,
+        Err(status) => status,
+    }
+}
+
+/// The run after lawful words.
+fn perform<F: Files, S: Sink>(alloc: Global, words: &Words, files: &mut F, frames: &mut S, journal: &mut Journal) -> Result<(), Status>
+    requires lawful { AreLawful words.now }
+    requires empty { journal.old ≡ [] }
+    ensures files { F.held files.new ≡ F.held files.old }
+    ensures done { OnOk result (Ends (run_of words.now (F.held files.old) (F.faults files.old) (F.faults files.new) (S.faults frames.old) (S.faults frames.new) (S.contents frames.old) (S.contents frames.new) journal.new) statuses.Done) }
+    ensures ended { IfErr result (Ends (run_of words.now (F.held files.old) (F.faults files.old) (F.faults files.new) (S.faults frames.old) (S.faults frames.new) (S.contents frames.old) (S.contents frames.new) journal.new)) }
+{
+    let count = fetch_script(alloc, files, words.at(1))?;
+    let document = fetch_document(alloc, files, words.at(0))?;
+    let canvas = draw(alloc, &document)?;
+    write_frames(&canvas, count, journal, frames)
+}

@@ -1,0 +1,109 @@
+-- How the parts of a run make its end.
+use Rattle.std.proofs.Common.{◌≡◌, ℕ, ◌≤◌, ◌<◌, ◌⊎◌, List, length, Option, None, Some, refl, sym, ap, ◌∙◌, subst, inl, inr, arith}
+use Rattle.std.specs.Prelude.{IfSome, IfErr, OnOk, Result, Ok, Err}
+use Rattle.std.specs.FinMap.{get}
+use Rattle.std.specs.Io.KnownBytes.{Appends}
+use Rattle.outside.specs.Bytes.{AppendsPart}
+use Rattle.outside.specs.Store.{Store}
+use Rattle.qml_parse.specs.declared.fault.LoadFault.{LoadFault}
+use Rattle.qml_parse.specs.declared.fault.LoadFault.TheVariants as load
+use Rattle.qml_parse.specs.Meaning.{flattened}
+use Rattle.qml_parse.specs.Tree.{Members}
+use Rattle.rect_raster.specs.Picture.{Picture, ppm}
+use Rattle.rect_raster.specs.Drawing.{drawing}
+use Rattle.stage_run.specs.declared.status.Status.{Status}
+use Rattle.stage_run.specs.declared.status.Status.TheVariants as status
+use Rattle.stage_run.specs.Causes.{HasScript, HasBadScript, HasTree, IsFaultOf, HasFault, Accepts, Run, IsPart, Ends, HasCause, IsSound, IsDoneOrNoMemory}
+use Rattle.stage_run.specs.Flaws.{IsPrefix, StopsWriting}
+use Rattle.stage_run.specs.Moves.{commands}
+use Rattle.stage_run.specs.Painting.{painted}
+use Rattle.stage_run.specs.Words.{main_of, script_of}
+use Rattle.stage_run.specs.Written.{image_of, copies, written}
+use Rattle.stage_run.proofs.ScriptLemmas.{script_is_good}
+use Rattle.stage_run.proofs.WrittenFrames.{written-commands}
+
+-- the two files that the words name
+pub accepted : (held after : Option Store) (words : List (List ℕ)) (script main : List ℕ) (count : ℕ) (tree : Members)
+    → script ≡ script_of words → main ≡ main_of words → after ≡ held
+    → IfSome held (λ files. HasScript (get files script) count) → IfSome after (λ files. HasTree (get files main) tree) → Accepts held words count tree
+accepted held after words script main count tree e f same has_script has_tree =
+    let P : Option Store → Type 0 = λ h. IfSome h (λ files. HasTree (get files main) tree) in
+    both held words script main count tree e f has_script (subst P same has_tree)
+  where
+    both : (held : Option Store) (words : List (List ℕ)) (script main : List ℕ) (count : ℕ) (tree : Members)
+        → script ≡ script_of words → main ≡ main_of words
+        → IfSome held (λ files. HasScript (get files script) count) → IfSome held (λ files. HasTree (get files main) tree) → Accepts held words count tree
+    both None words script main count tree e f has_script has_tree = tt
+    both (Some files) words script main count tree e f has_script has_tree =
+        (subst (λ name. HasScript (get files name) count) e has_script, subst (λ name. HasTree (get files name) tree) f has_tree)
+
+-- a canvas with a tree's drawing has its image
+pub image-drawn : (canvas : Picture) (tree : Members) → canvas ≡ drawing 640 480 (painted 0 0 tree) → ppm canvas ≡ image_of tree
+unfolding image_of
+image-drawn canvas tree e = ap ppm e
+
+copies-written : (image : List ℕ) (tree : Members) (n : ℕ) → image ≡ image_of tree → copies image n ≡ written tree (commands n)
+copies-written image tree n e = ap (λ i. copies i n) e ∙ written-commands tree n
+
+-- all frames were written
+pub ended-whole : {A : Type 0} (r : Result A Status) (run : Run) (image : List ℕ) (count : ℕ) (tree : Members) → count ≤ 100000 → Accepts run.held run.words count tree → image ≡ image_of tree
+    → OnOk r (run.journal ≡ commands count) → OnOk r (Appends run.frames_before run.frames_after (copies image count)) → OnOk r (Ends run status.Done)
+ended-whole (Ok a) run image count tree few took e moved wrote = (count, tree, record {
+  few = few;
+  accepted = took;
+  moves = moved;
+  bytes = subst (Appends run.frames_before run.frames_after) (copies-written image tree count e ∙ ap (written tree) (sym moved)) wrote;
+})
+ended-whole (Err s) run image count tree few took e moved wrote = tt
+
+-- the first frames, as a part of the run
+part_of : (run : Run) (image : List ℕ) (count : ℕ) (tree : Members) → count ≤ 100000 → Accepts run.held run.words count tree → image ≡ image_of tree
+    → IsPrefix image count run.journal run.frames_before run.frames_after → (n : ℕ) × (done : ℕ) × (t : Members) × IsPart run n done t
+part_of run image count tree few took e part = (count, part.done, tree, record {
+  few = few;
+  within = part.within;
+  accepted = took;
+  moves = part.moves;
+  bytes = subst (AppendsPart run.frames_before run.frames_after) (copies-written image tree part.done e ∙ ap (written tree) (sym part.moves)) part.bytes;
+})
+
+-- the frames stopped
+stopped_with : (run : Run) (s : Status) (image : List ℕ) (count : ℕ) (tree : Members) → count ≤ 100000 → Accepts run.held run.words count tree → image ≡ image_of tree
+    → StopsWriting image count run.journal run.frames_before run.frames_after run.writes_before run.writes_after s → Ends run s
+stopped_with run status.Done image count tree few took e stopped = absurd stopped
+stopped_with run status.Usage image count tree few took e stopped = stopped
+stopped_with run (status.BadScript line) image count tree few took e stopped = absurd stopped
+stopped_with run (status.BadDocument fault) image count tree few took e stopped = absurd stopped
+stopped_with run status.ReadFault image count tree few took e stopped = absurd stopped
+stopped_with run status.WriteFault image count tree few took e stopped = (stopped.0, part_of run image count tree few took e stopped.1)
+stopped_with run status.NoMemory image count tree few took e stopped = inr (part_of run image count tree few took e stopped)
+
+pub ended-stopped : {A : Type 0} (r : Result A Status) (run : Run) (image : List ℕ) (count : ℕ) (tree : Members) → count ≤ 100000 → Accepts run.held run.words count tree → image ≡ image_of tree
+    → IfErr r (StopsWriting image count run.journal run.frames_before run.frames_after run.writes_before run.writes_after) → IfErr r (Ends run)
+ended-stopped (Ok a) run image count tree few took e stopped = tt
+ended-stopped (Err s) run image count tree few took e stopped = stopped_with run s image count tree few took e stopped
+
+-- a script is no bad one
+not_bad : (file : Option (List ℕ)) (count line : ℕ) → HasScript file count → HasBadScript file line → ⊥
+not_bad None count line has bad = has
+not_bad (Some bytes) count line has (inl long) = omega arith
+not_bad (Some bytes) count line has (inr bad) = script_is_good bytes count line has.1 bad.1
+
+-- a document has no fault
+no_fault : (main : List ℕ) (file : Option (List ℕ)) (tree : Members) (fault : LoadFault) → HasTree file tree → IsFaultOf main fault → HasFault file fault → ⊥
+no_fault main None tree fault has named bad = has
+no_fault main (Some bytes) tree (load.Missing name) has named bad = cc
+no_fault main (Some bytes) tree (load.TooLong name) has named bad = omega arith
+no_fault main (Some bytes) tree (load.Doc name fault) has named bad = bad.1 (flattened None 0 tree) (tree, has.1, has.2, refl)
+
+-- with sound files nothing is refused
+pub complete-cause : (run : Run) (s : Status) → HasCause run s → (files : Store) → IsSound run files → IsDoneOrNoMemory s
+complete-cause run status.Done cause files sound = tt
+complete-cause run status.Usage cause files sound = cause.1 sound.words
+complete-cause run (status.BadScript line) cause files sound =
+    let told = rw sound.told at cause.1.2 in not_bad (get files (script_of run.words)) sound.count line sound.script told
+complete-cause run (status.BadDocument fault) cause files sound =
+    let told = rw sound.told at cause.1.2 in no_fault (main_of run.words) (get files (main_of run.words)) sound.tree fault sound.document cause.1.1 told.1
+complete-cause run status.ReadFault cause files sound = sound.reads cause.1.1
+complete-cause run status.WriteFault cause files sound = sound.writes cause.1.0
+complete-cause run status.NoMemory cause files sound = tt
