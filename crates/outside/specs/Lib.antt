@@ -1,3 +1,5 @@
 pub mod Bytes
 pub mod Count
+pub mod FilesInMemory
+pub mod SinkInMemory
 pub mod Store

@@ -1,0 +1,62 @@
+ghost use Rattle.std.specs.Prelude.{◌≡◌, ◌<◌, ◌≤◌, length, IfOk, OnOk, OnErr};
+ghost use Rattle.outside.specs.Count.{next_count, Rose};
+
+use crate::sink::{Sink, SinkFailed};
+use std::io::Write;
+use std::marker::Model;
+
+/// A sink over a writer of std. It buffers nothing and tells no bytes.
+///
+/// Contracts see it as the number of its writes that failed.
+#[derive(Drop)]
+pub struct WriterSink<W> {
+    writer: W,
+    faults: u64,
+}
+
+impl<W> Model for WriterSink<W> {
+    ghost use Rattle.std.specs.Prelude.{ℕ};
+
+    ghost Value = { ℕ };
+
+    ghost view = { λ s. s.faults };
+}
+
+impl<W> WriterSink<W> {
+    /// A sink over `writer` that has not failed.
+    pub fn new(writer: W) -> WriterSink<W>
+        ensures { result ≡ 0 }
+    {
+        WriterSink { writer, faults: 0 }
+    }
+}
+
+impl<W: Write> Sink for WriterSink<W> {
+    ghost use Rattle.std.specs.Prelude.{None};
+
+    ghost contents = { λ _. None };
+
+    ghost faults = { λ s. s };
+
+    /// One write of the writer. It fails where the writer fails, and where the writer takes no byte
+    /// of a piece that has some.
+    fn write(&mut self, piece: &[u8]) -> Result<usize, SinkFailed>
+        // What every sink keeps.
+        ensures bound { IfOk result (λ n. n ≤ length piece.now) }
+        ensures taken { IfOk result (λ n. 0 < length piece.now → 0 < n) }
+        ensures later { self.old ≤ self.new }
+        ensures failed { OnErr result (Rose self.old self.new) }
+
+        // It counts its failures and no others.
+        ensures ok { OnOk result (self.new ≡ self.old) }
+        ensures err { OnErr result (self.new ≡ next_count self.old) }
+    {
+        match self.writer.write(piece) {
+            Ok(taken) if taken > 0 || piece.is_empty() => Ok(taken),
+            _ => {
+                self.faults = self.faults.saturating_add(1);
+                Err(SinkFailed)
+            }
+        }
+    }
+}
