@@ -6,7 +6,7 @@ use Rattle.outside.proofs.folder_files.read_rest.Given as goal
 abbrev pub invariant-loop-got : goal.invariant-loop-got
 invariant-loop-got g l = record {
   within : vec_len l.out ≤ l.limit;
-  read : Consumes (g.F.Read.remaining l.fn.file) (g.F.Read.remaining l.file) l.out.items
+  read : Consumes (g.F.Read.remaining l.fn.file) (g.F.Read.remaining l.file) l.out.items;
 }
 
 -- each turn takes a byte or more
