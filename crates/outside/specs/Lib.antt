@@ -3,3 +3,4 @@ pub mod Count
 pub mod FilesInMemory
 pub mod SinkInMemory
 pub mod Store
+pub mod WriterWithFaults

@@ -1,4 +1,5 @@
-ghost use Rattle.std.specs.Prelude.{◌≡◌, ◌≢◌, ◌≤◌, None, vec_len};
+ghost use Rattle.std.specs.Prelude.{◌≡◌, ◌≢◌, ◌<◌, ◌≤◌, ◌↔◌, [], length, None, IfSome, vec_len};
+ghost use Rattle.std.specs.IoError.{error_kind};
 ghost use Rattle.outside.specs.Count.{next_count, Rose};
 ghost use Rattle.outside.specs.Store.{Answers};
 
@@ -38,6 +39,7 @@ impl<'a, R> FolderFiles<'a, R> {
     // The answer for an error. That a file is not there is no fault.
     fn refuse(&mut self, error: Error) -> Fetch
         ensures found { result ≢ Fetch.Found }
+        ensures missing { (result ≡ Fetch.Missing) ↔ (error_kind error ≡ ErrorKind.NotFound) }
         ensures failed { result ≡ Fetch.Failed → self.new ≡ next_count self.old }
         ensures others { result ≢ Fetch.Failed → self.new ≡ self.old }
         ensures later { self.old ≤ self.new }
@@ -58,10 +60,14 @@ enum Reading {
     NoMemory,
 }
 
-// Reads the rest of the file into `out`, in turns that each take a byte or more.
+// Reads what is left of the file into `out`, in turns that each take a byte or more.
 fn read_rest<F: Read>(file: &mut F, limit: usize, out: &mut Vec<u8>) -> Reading
-    requires { vec_len out.old ≤ limit }
-    ensures { vec_len out.new ≤ limit }
+    requires { out.old.items ≡ [] }
+    ensures within { vec_len out.new ≤ limit }
+
+    // Where the reader tells the bytes that it has left.
+    ensures whole { result ≡ Reading.Whole → IfSome (F.remaining file.old) (λ bytes. out.new.items ≡ bytes) }
+    ensures too_long { result ≡ Reading.TooLong → IfSome (F.remaining file.old) (λ bytes. limit < length bytes) }
 {
     let mut chunk = [0u8; CHUNK];
     loop {

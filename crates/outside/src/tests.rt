@@ -25,7 +25,11 @@ fn memory_files(rt: HostRuntime) -> Result<(), Fail> {
         ("none.qml", 0, Fetch::Found, b"".as_slice()),
         ("two.qml", usize::MAX, Fetch::Missing, b"".as_slice()),
     ] {
-        assert_eq!(rt; files.fetch(name, limit, &mut out), answer, "{name} within {limit}");
+        assert_eq!(rt;
+            files.fetch(name, limit, &mut out),
+            answer,
+            "{name} within {limit}"
+        );
         assert_eq!(rt; out.as_slice(), bytes, "{name} within {limit}");
     }
     Ok(())
@@ -114,10 +118,19 @@ fn folder_files(rt: HostRuntime) -> Result<(), Fail> {
         (name, 0, Fetch::TooLong, b"".as_slice()),
         (long_name, 5000, Fetch::Found, long.as_slice()),
         (long_name, 4999, Fetch::TooLong, b"".as_slice()),
-        ("outside_no_such_file.txt", 12, Fetch::Missing, b"".as_slice()),
+        (
+            "outside_no_such_file.txt",
+            12,
+            Fetch::Missing,
+            b"".as_slice(),
+        ),
         (".", 12, Fetch::Failed, b"".as_slice()),
     ] {
-        assert_eq!(rt; files.fetch(name, limit, &mut out), answer, "{name} within {limit}");
+        assert_eq!(rt;
+            files.fetch(name, limit, &mut out),
+            answer,
+            "{name} within {limit}"
+        );
         assert_eq!(rt; out.as_slice(), bytes, "{name} within {limit}");
     }
     fs::remove_file(&rt, name)?;

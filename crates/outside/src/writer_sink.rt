@@ -1,4 +1,5 @@
 ghost use Rattle.std.specs.Prelude.{◌≡◌, ◌<◌, ◌≤◌, length, IfOk, OnOk, OnErr};
+ghost use Rattle.std.specs.Io.KnownBytes.{WriteAppends};
 ghost use Rattle.outside.specs.Count.{next_count, Rose};
 
 use crate::sink::{Sink, SinkFailed};
@@ -7,7 +8,7 @@ use std::marker::Model;
 
 /// A sink over a writer of std. It buffers nothing and tells no bytes.
 ///
-/// Contracts see it as the number of its writes that failed.
+/// Contracts see it as the writer, with the number of writes that failed.
 #[derive(Drop)]
 pub struct WriterSink<W> {
     writer: W,
@@ -15,17 +16,19 @@ pub struct WriterSink<W> {
 }
 
 impl<W> Model for WriterSink<W> {
-    ghost use Rattle.std.specs.Prelude.{ℕ};
+    ghost use Rattle.outside.specs.WriterWithFaults.{WriterWithFaults, writer_with_faults_code};
 
-    ghost Value = { ℕ };
+    ghost Value = { WriterWithFaults W };
 
-    ghost view = { λ s. s.faults };
+    ghost coded = { writer_with_faults_code W.code };
+
+    ghost view = { λ s. record { writer = s.writer; faults = s.faults } };
 }
 
 impl<W> WriterSink<W> {
     /// A sink over `writer` that has not failed.
     pub fn new(writer: W) -> WriterSink<W>
-        ensures { result ≡ 0 }
+        ensures { result ≡ record { writer = writer; faults = 0 } }
     {
         WriterSink { writer, faults: 0 }
     }
@@ -36,7 +39,7 @@ impl<W: Write> Sink for WriterSink<W> {
 
     ghost contents = { λ _. None };
 
-    ghost faults = { λ s. s };
+    ghost faults = { λ s. s.faults };
 
     /// One write of the writer. It fails where the writer fails, and where the writer takes no byte
     /// of a piece that has some.
@@ -44,12 +47,13 @@ impl<W: Write> Sink for WriterSink<W> {
         // What every sink keeps.
         ensures bound { IfOk result (λ n. n ≤ length piece.now) }
         ensures taken { IfOk result (λ n. 0 < length piece.now → 0 < n) }
-        ensures later { self.old ≤ self.new }
-        ensures failed { OnErr result (Rose self.old self.new) }
+        ensures later { self.old.faults ≤ self.new.faults }
+        ensures failed { OnErr result (Rose self.old.faults self.new.faults) }
 
-        // It counts its failures and no others.
-        ensures ok { OnOk result (self.new ≡ self.old) }
-        ensures err { OnErr result (self.new ≡ next_count self.old) }
+        // What the writer tells grows by what was taken, and failures are counted and no others.
+        ensures written { WriteAppends (W.contents self.old.writer) (W.contents self.new.writer) result piece.now }
+        ensures ok { OnOk result (self.new.faults ≡ self.old.faults) }
+        ensures err { OnErr result (self.new.faults ≡ next_count self.old.faults) }
     {
         match self.writer.write(piece) {
             Ok(taken) if taken > 0 || piece.is_empty() => Ok(taken),
