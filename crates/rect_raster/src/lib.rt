@@ -5,7 +5,6 @@ mod area;
 mod bytes;
 pub mod canvas;
 pub mod clip_rect;
-
 #[cfg(test)]
 mod tests;
 

@@ -5,7 +5,9 @@ use std::process::Abort;
 use std::test::Fail;
 
 const RED: u32 = 0xffff_0000;
+
 const GREEN: u32 = 0xff00_ff00;
+
 const BLUE: u32 = 0xff00_00ff;
 
 fn rect(left: i64, top: i64, right: i64, bottom: i64) -> ClipRect {
@@ -18,11 +20,7 @@ fn rect(left: i64, top: i64, right: i64, bottom: i64) -> ClipRect {
 }
 
 /// What is written of a canvas of 3 by 2 pixels on which the rectangles were filled in order.
-fn painted(
-    rt: &impl Abort,
-    alloc: Global,
-    shapes: &[(ClipRect, u32)],
-) -> Result<Vec<u8>, Fail> {
+fn painted(rt: &impl Abort, alloc: Global, shapes: &[(ClipRect, u32)]) -> Result<Vec<u8>, Fail> {
     let mut canvas = Canvas::new(alloc, 3, 2)?;
     for (area, argb) in shapes {
         assert!(rt; *argb >= 0xff00_0000);
@@ -76,7 +74,10 @@ fn a_rectangle_is_cut_to_the_canvas(rt: HostRuntime) -> Result<(), Fail> {
         (rect(i64::MAX, 0, i64::MIN, 2), "WWWWWW"),
     ] {
         let got = painted(&rt, rt.alloc(), [(area, RED)].as_slice())?;
-        assert!(rt; got.as_slice() == pixmap(rt.alloc(), want)?.as_slice(), "{area:?}");
+        assert!(rt;
+            got.as_slice() == pixmap(rt.alloc(), want)?.as_slice(),
+            "{area:?}"
+        );
     }
     Ok(())
 }
@@ -85,15 +86,29 @@ fn a_rectangle_is_cut_to_the_canvas(rt: HostRuntime) -> Result<(), Fail> {
 fn a_later_rectangle_lies_over_an_earlier_one(rt: HostRuntime) -> Result<(), Fail> {
     for (shapes, want) in [
         ([].as_slice(), "WWWWWW"),
-        ([(rect(0, 0, 2, 2), RED), (rect(1, 1, 3, 2), BLUE)].as_slice(), "RRWRBB"),
-        ([(rect(1, 1, 3, 2), BLUE), (rect(0, 0, 2, 2), RED)].as_slice(), "RRWRRB"),
         (
-            [(rect(0, 0, 3, 2), RED), (rect(1, 0, 3, 1), BLUE), (rect(1, 0, 2, 1), GREEN)].as_slice(),
+            [(rect(0, 0, 2, 2), RED), (rect(1, 1, 3, 2), BLUE)].as_slice(),
+            "RRWRBB",
+        ),
+        (
+            [(rect(1, 1, 3, 2), BLUE), (rect(0, 0, 2, 2), RED)].as_slice(),
+            "RRWRRB",
+        ),
+        (
+            [
+                (rect(0, 0, 3, 2), RED),
+                (rect(1, 0, 3, 1), BLUE),
+                (rect(1, 0, 2, 1), GREEN),
+            ]
+            .as_slice(),
             "RGBRRR",
         ),
     ] {
         let got = painted(&rt, rt.alloc(), shapes)?;
-        assert!(rt; got.as_slice() == pixmap(rt.alloc(), want)?.as_slice(), "{want}");
+        assert!(rt;
+            got.as_slice() == pixmap(rt.alloc(), want)?.as_slice(),
+            "{want}"
+        );
     }
     Ok(())
 }
@@ -101,8 +116,18 @@ fn a_later_rectangle_lies_over_an_earlier_one(rt: HostRuntime) -> Result<(), Fai
 #[test]
 fn bytes_of_a_pixmap(rt: HostRuntime) -> Result<(), Fail> {
     for (width, height, argb, want) in [
-        (3, 1, RED, b"P6\n3 1\n255\n\xff\x00\x00\xff\x00\x00\xff\xff\xff".as_slice()),
-        (1, 2, 0xff12_3456, b"P6\n1 2\n255\n\x12\x34\x56\xff\xff\xff".as_slice()),
+        (
+            3,
+            1,
+            RED,
+            b"P6\n3 1\n255\n\xff\x00\x00\xff\x00\x00\xff\xff\xff".as_slice(),
+        ),
+        (
+            1,
+            2,
+            0xff12_3456,
+            b"P6\n1 2\n255\n\x12\x34\x56\xff\xff\xff".as_slice(),
+        ),
         (0, 5, RED, b"P6\n0 5\n255\n".as_slice()),
         (12, 0, RED, b"P6\n12 0\n255\n".as_slice()),
     ] {
