@@ -66,8 +66,10 @@ fn read_rest<F: Read>(file: &mut F, limit: usize, out: &mut Vec<u8>) -> Reading
     ensures within { vec_len out.new ≤ limit }
 
     // Where the reader tells the bytes that it has left.
-    ensures whole { result ≡ Reading.Whole → IfSome (F.remaining file.old) (λ bytes. out.new.items ≡ bytes) }
-    ensures too_long { result ≡ Reading.TooLong → IfSome (F.remaining file.old) (λ bytes. limit < length bytes) }
+    ensures whole { result ≡ Reading.Whole →
+        IfSome (F.remaining file.old) (λ bytes. out.new.items ≡ bytes) }
+    ensures too_long { result ≡ Reading.TooLong →
+        IfSome (F.remaining file.old) (λ bytes. limit < length bytes) }
 {
     let mut chunk = [0u8; CHUNK];
     loop {
@@ -94,6 +96,8 @@ impl<R: rt::Files> Files for FolderFiles<'_, R> {
 
     ghost faults = { λ f. f };
 
+    /// Reads at most `limit + 1` bytes of the file, in at most `limit + 1` turns. Each error of the
+    /// system is a failure, but for one: that a file is not there is the answer `Missing`.
     fn fetch(&mut self, name: &str, limit: usize, out: &mut Vec<u8>) -> Fetch
         // What every store keeps.
         ensures answer { Answers None name.now limit out.new.items result }

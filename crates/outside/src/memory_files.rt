@@ -35,13 +35,23 @@ impl Model for MemFiles {
 
     ghost coded = { memory_files_code };
 
-    ghost view = { λ m. record { files = store_of m.files.items; failing = call_set_of m.failing.items; calls = m.calls; faults = m.faults } };
+    ghost view = { λ m. record {
+      files = store_of m.files.items;
+      failing = call_set_of m.failing.items;
+      calls = m.calls;
+      faults = m.faults;
+    } };
 }
 
 impl MemFiles {
     /// No files, and no fetch that fails.
     pub fn new(alloc: Global) -> MemFiles
-        ensures { result ≡ record { files = files_by_name.empty; failing = call_numbers.empty; calls = 0; faults = 0 } }
+        ensures { result ≡ record {
+          files = files_by_name.empty;
+          failing = call_numbers.empty;
+          calls = 0;
+          faults = 0;
+        } }
     {
         MemFiles {
             alloc,
@@ -52,9 +62,12 @@ impl MemFiles {
         }
     }
 
-    /// Adds the file `name` with these bytes, in place of an earlier one of that name.
+    /// Adds the file `name` with these bytes, in place of an earlier one of that name. The only error
+    /// is that memory ran out, and then nothing has changed.
     pub fn add(&mut self, name: &str, bytes: &[u8]) -> Result<(), AllocError>
-        ensures ok { OnOk result (self.new ≡ record self.old { files = files_by_name.insert self.old.files name.now bytes.now }) }
+        ensures ok { OnOk result (self.new ≡ record self.old {
+          files = files_by_name.insert self.old.files name.now bytes.now;
+        }) }
         ensures err { OnErr result (self.new ≡ self.old) }
     {
         let file = MemoryFile {
@@ -65,9 +78,12 @@ impl MemFiles {
         Ok(())
     }
 
-    /// The fetch of that number fails, counted from 1 and from the store's first.
+    /// Makes the fetch of that number fail, where the first fetch is number 1. The only error is that
+    /// memory ran out, and then nothing has changed.
     pub fn fail(&mut self, call: u64) -> Result<(), AllocError>
-        ensures ok { OnOk result (self.new ≡ record self.old { failing = call_numbers.insert self.old.failing call }) }
+        ensures ok { OnOk result (self.new ≡ record self.old {
+          failing = call_numbers.insert self.old.failing call;
+        }) }
         ensures err { OnErr result (self.new ≡ self.old) }
     {
         self.failing.push(call)?;
@@ -115,7 +131,8 @@ impl Files for MemFiles {
 
     ghost faults = { λ m. m.faults };
 
-    /// Fails where the fetch's number is one that fails, and nowhere else.
+    /// Fails where the number of the fetch is one that fails, and nowhere else. The number stands
+    /// still at 2^64 - 1.
     fn fetch(&mut self, name: &str, limit: usize, out: &mut Vec<u8>) -> Fetch
         // What every store keeps.
         ensures held { self.new.files ≡ self.old.files }
@@ -125,7 +142,8 @@ impl Files for MemFiles {
 
         // Exactly what this one does. Where memory runs out it would have found the file.
         ensures exact { result ≢ Fetch.NoMemory → result ≡ next_answer self.old name.now limit }
-        ensures no_memory { result ≡ Fetch.NoMemory → next_answer self.old name.now limit ≡ Fetch.Found }
+        ensures no_memory { result ≡ Fetch.NoMemory →
+            next_answer self.old name.now limit ≡ Fetch.Found }
         ensures after { self.new ≡ after_fetch self.old }
     {
         out.clear();

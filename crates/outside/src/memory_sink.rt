@@ -22,16 +22,28 @@ impl Model for MemSink {
 
     ghost Value = { MemorySink };
 
-    ghost view = { λ s. record { bytes = s.bytes.items; per_write = s.per_write; room = s.room; faults = s.faults } };
+    ghost view = { λ s. record {
+      bytes = s.bytes.items;
+      per_write = s.per_write;
+      room = s.room;
+      faults = s.faults;
+    } };
 
-    ghost invariant = { λ s. (0 < s.per_write) × ((vec_len s.bytes ≤ s.room) × (s.room ≤ vec_capacity s.bytes)) };
+    ghost invariant = { λ s. (0 < s.per_write)
+        × ((vec_len s.bytes ≤ s.room) × (s.room ≤ vec_capacity s.bytes)) };
 }
 
 impl MemSink {
-    /// An empty sink of `room` bytes in all, of which a write takes at most `take`.
+    /// An empty sink of `room` bytes in all, of which a write takes at most `take`. The only error is
+    /// that there is no memory for so many bytes.
     pub fn new(alloc: Global, take: usize, room: usize) -> Result<MemSink, AllocError>
         requires { 0 < take }
-        ensures { IfOk result (λ s. s ≡ record { bytes = []; per_write = take; room = room; faults = 0 }) }
+        ensures { IfOk result (λ s. s ≡ record {
+          bytes = [];
+          per_write = take;
+          room = room;
+          faults = 0;
+        }) }
     {
         Ok(MemSink {
             bytes: Vec::with_capacity(alloc, room)?,
@@ -78,8 +90,12 @@ impl Sink for MemSink {
         // Exactly what this one does.
         ensures full { IsErr result ↔ IsFullFor self.old piece.now }
         ensures count { IfOk result (λ n. n ≡ count_taken self.old piece.now) }
-        ensures ok { IfOk result (λ n. self.new ≡ record self.old { bytes = self.old.bytes ++ take n piece.now }) }
-        ensures err { OnErr result (self.new ≡ record self.old { faults = next_count self.old.faults }) }
+        ensures ok { IfOk result (λ n. self.new ≡ record self.old {
+          bytes = self.old.bytes ++ take n piece.now;
+        }) }
+        ensures err { OnErr result (self.new ≡ record self.old {
+          faults = next_count self.old.faults;
+        }) }
     {
         let left = self.room - self.bytes.len();
         if left == 0 && !piece.is_empty() {
