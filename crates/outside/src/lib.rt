@@ -4,9 +4,20 @@
 #![tactic(auto)]
 
 pub mod files;
+pub mod folder_files;
 pub mod hold;
+pub mod memory_files;
+pub mod memory_sink;
 pub mod sink;
+pub mod writer_sink;
 
 pub use files::{Fetch, Files};
+pub use folder_files::FolderFiles;
 pub use hold::{Hold, HoldPoint, NoHold};
+pub use memory_files::MemFiles;
+pub use memory_sink::MemSink;
 pub use sink::{Sink, SinkFailed, write_whole};
+pub use writer_sink::WriterSink;
+
+#[cfg(test)]
+mod tests;

@@ -1,4 +1,5 @@
 mod Clipping
 pub mod Drawing
+mod Filling
 mod Rows
 mod Writing

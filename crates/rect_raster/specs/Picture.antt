@@ -8,6 +8,7 @@ pub record Picture : Type 0 where
   pub height : ℕ
   pub pixels : List ℕ
 
+-- the picture of this width, height and pixels
 abbrev pub picture_of : ℕ → ℕ → List ℕ → Picture
 picture_of width height pixels = record { width = width; height = height; pixels = pixels }
 

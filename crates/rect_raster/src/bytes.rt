@@ -4,7 +4,7 @@ ghost use Rattle.rect_raster.specs.Bytes.{Filled};
 
 use crate::area::Area;
 
-/// A colour with nothing of what lies below.
+/// An opaque colour.
 #[derive(Clone, Copy)]
 struct Rgb {
     red: u8,
@@ -12,6 +12,7 @@ struct Rgb {
     blue: u8,
 }
 
+/// The colour that `argb` has below its highest byte.
 #[tactic(auto, unfolding(crate::specs::Drawing::channel_of))]
 fn rgb_of(argb: u32) -> Rgb
     ensures red { result.red ≡ channel_of argb 0 }

@@ -70,8 +70,8 @@ pub fn fill(canvas: &mut Canvas, rect: ClipRect, argb: u32)
     fill_area(&mut canvas.pixels, width, area, argb);
 }
 
-/// Writes a canvas as a binary pixmap, Netpbm's P6. It fails when the sink does, which has then got the
-/// first bytes of it.
+/// Writes a canvas as a binary pixmap, Netpbm's P6. It fails where a write of the sink failed, and the
+/// sink has then got the pixmap's first bytes, maybe none.
 pub fn write_ppm<S: Sink>(canvas: &Canvas, sink: &mut S) -> Result<(), SinkFailed>
     ensures whole { OnOk result (Appends (S.contents sink.old) (S.contents sink.new) (ppm canvas.now)) }
     ensures part { OnErr result (AppendsPart (S.contents sink.old) (S.contents sink.new) (ppm canvas.now)) }
