@@ -15,3 +15,6 @@ pub use journal::{Journal, Move};
 pub use stage::{Outcome, run};
 pub use status::{Status, exit_of, status_line};
 pub use words::Words;
+
+#[cfg(test)]
+mod tests;

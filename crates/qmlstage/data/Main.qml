@@ -1,0 +1,1 @@
+Rectangle { width: 2; height: 1; color: "#ff0000" }
