@@ -1,15 +1,12 @@
 -- The productions, and the reader's steps over them.
-use Rattle.std.proofs.Common.{◌≡◌, ℕ, ◌+◌, ◌<◌, ◌≤◌, ◌⊎◌, inl, inr, List, [], ◌∷◌, ◌++◌, length, refl, sym, ◌∙◌, ap, subst, arith, Option, None, Some, is_some, IfNone, set}
-use Rattle.qml_parse.specs.declared.document.RectDecl.{RectDecl}
-use Rattle.qml_parse.specs.declared.draft.Draft.{Draft}
+use Rattle.std.proofs.Common.{◌≡◌, ℕ, inl, inr, List, ◌∷◌, refl, subst, arith, Option, None, Some, is_some, IfNone}
 use Rattle.qml_parse.specs.declared.part.Part.{Part}
 use Rattle.qml_parse.specs.declared.part.Part.TheVariants.{Value, Tint, Begin, End}
 use Rattle.qml_parse.specs.declared.token.Token.{Token}
-use Rattle.qml_parse.specs.declared.token.Token.TheVariants.{Rectangle, Name, Color, Number, Paint, Open, Close, Colon, Semicolon}
+use Rattle.qml_parse.specs.declared.token.Token.TheVariants.{Name, Color, Number, Paint, Colon}
 use Rattle.qml_parse.specs.Grammar.{IsEnded, IsMembers}
-use Rattle.qml_parse.specs.Meaning.{value_of, color_of, own, inner, size, children, depth, HasDistinctNames}
 use Rattle.qml_parse.specs.Building.{IsNext}
-use Rattle.qml_parse.specs.Tree.{Property, X, Y, Width, Height, Members, none, number, color, child}
+use Rattle.qml_parse.specs.Tree.{Property, Members, none, number, color, child}
 
 -- an initialiser ends in one way
 pub one_end : (ts us r s : List Token) → IsEnded ts r → IsEnded us s → ts ≡ us → r ≡ s
@@ -50,12 +47,12 @@ one_tree m n ts us r s e f same = absurd (grind arith)
 
 -- a value that doesn't end there begins no part
 pub no_value : (p : Property) (n : ℕ) (tokens behind : List Token) → tokens ≡ Name p ∷ Colon ∷ Number n ∷ behind
-  → ((rest : List Token) → IsEnded behind rest → ⊥) → (part : Part) (rest : List Token) → IsNext part tokens rest → ⊥
+    → ((rest : List Token) → IsEnded behind rest → ⊥) → (part : Part) (rest : List Token) → IsNext part tokens rest → ⊥
 no_value p n tokens behind e never (Value q m) rest (b, f, h) = never rest (let same : b ≡ behind = cc in subst (λ (t : List Token). IsEnded t rest) same h)
 no_value p n tokens behind e never part rest f = grind arith
 
 pub no_tint : (paint : ℕ) (tokens behind : List Token) → tokens ≡ Color ∷ Colon ∷ Paint paint ∷ behind
-  → ((rest : List Token) → IsEnded behind rest → ⊥) → (part : Part) (rest : List Token) → IsNext part tokens rest → ⊥
+    → ((rest : List Token) → IsEnded behind rest → ⊥) → (part : Part) (rest : List Token) → IsNext part tokens rest → ⊥
 no_tint p tokens behind e never (Tint m) rest (b, f, h) = never rest (let same : b ≡ behind = cc in subst (λ (t : List Token). IsEnded t rest) same h)
 no_tint p tokens behind e never part rest f = grind arith
 

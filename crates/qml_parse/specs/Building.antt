@@ -5,7 +5,7 @@ use Rattle.qml_parse.specs.declared.draft.Draft.{Draft}
 use Rattle.qml_parse.specs.declared.part.Part.{Part}
 use Rattle.qml_parse.specs.declared.part.Part.TheVariants.{Value, Tint, Begin, End}
 use Rattle.qml_parse.specs.declared.token.Token.{Token}
-use Rattle.qml_parse.specs.declared.token.Token.TheVariants.{Rectangle, Name, Color, Number, Paint, Open, Close, Colon, Semicolon}
+use Rattle.qml_parse.specs.declared.token.Token.TheVariants.{Rectangle, Name, Color, Number, Paint, Open, Close, Colon}
 use Rattle.qml_parse.specs.Grammar.{IsEnded, IsMembers, IsObject}
 use Rattle.qml_parse.specs.Meaning.{value_of, color_of, children, depth, flattened, HasDistinctNames, IsLawfulTree}
 use Rattle.qml_parse.specs.Tree.{Property, X, Y, Width, Height, Members, none}

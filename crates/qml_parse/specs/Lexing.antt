@@ -1,5 +1,5 @@
 -- How the reader cuts the first token off a text.
-use Rattle.std.specs.Prelude.{◌≡◌, ℕ, ◌+◌, ◌-◌, ◌*◌, ◌^◌, ◌≤◌, Bool, true, false, not, ◌||◌, ◌&&◌, ◌==◌, nat_le, List, [], ◌∷◌, take, drop, Option, Some, None, option_map, option_and_then, codes, if◌then◌else◌}
+use Rattle.std.specs.Prelude.{ℕ, ◌+◌, ◌-◌, ◌*◌, ◌^◌, Bool, true, false, not, ◌&&◌, ◌==◌, nat_le, List, [], ◌∷◌, take, drop, Option, Some, None, option_map, option_and_then, codes, if◌then◌else◌}
 use Rattle.std.specs.Str.{bytes_eq}
 use Rattle.qml_parse.specs.declared.token.Token.{Token}
 use Rattle.qml_parse.specs.declared.token.Token.TheVariants.{Rectangle, Name, Color, Number, Paint, Open, Close, Colon, Semicolon}
@@ -49,7 +49,7 @@ opaque_of red green blue = 255 * 2 ^ 24 + red * 2 ^ 16 + green * 2 ^ 8 + blue
 abbrev pub color_text : List ℕ → Option (Token × List ℕ)
 color_text (q ∷ h ∷ a ∷ b ∷ c ∷ d ∷ e ∷ f ∷ p ∷ rest) =
     if (q == 34) && ((h == 35) && (p == 34)) then
-        option_and_then (λ red. option_and_then (λ green. option_map (λ blue. (Paint (opaque_of red green blue), rest)) (hex_byte e f)) (hex_byte c d)) (hex_byte a b)
+    option_and_then (λ red. option_and_then (λ green. option_map (λ blue. (Paint (opaque_of red green blue), rest)) (hex_byte e f)) (hex_byte c d)) (hex_byte a b)
     else None
 color_text _ = None
 

@@ -30,7 +30,9 @@ fn take_part(
 {
     match part {
         Part::Value(property, number) => {
-            let draft = draft.with_number(property, number).ok_or(DocFault::REFUSED)?;
+            let draft = draft
+                .with_number(property, number)
+                .ok_or(DocFault::REFUSED)?;
             Ok(Some(draft))
         }
         Part::Tint(color) => {

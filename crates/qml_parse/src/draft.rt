@@ -53,8 +53,14 @@ impl Draft {
         Some(match property {
             Property::X => Draft { x: number, ..self },
             Property::Y => Draft { y: number, ..self },
-            Property::Width => Draft { width: number, ..self },
-            Property::Height => Draft { height: number, ..self },
+            Property::Width => Draft {
+                width: number,
+                ..self
+            },
+            Property::Height => Draft {
+                height: number,
+                ..self
+            },
         })
     }
 
@@ -65,7 +71,10 @@ impl Draft {
         if self.color.is_some() {
             return None;
         }
-        Some(Draft { color: Some(color), ..self })
+        Some(Draft {
+            color: Some(color),
+            ..self
+        })
     }
 
     /// The object, if it gives nothing more.

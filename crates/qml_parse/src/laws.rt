@@ -6,5 +6,4 @@ ghost use Rattle.qml_parse.specs.Meaning.{IsDocument};
 pub fn one_reading()
     ensures { (bytes : List ℕ) (first second : List RectDecl) →
         IsDocument bytes first → IsDocument bytes second → first ≡ second }
-{
-}
+{}

@@ -39,7 +39,12 @@ pub fn first_part(tokens: &[Token]) -> Option<(Part, &[Token])>
     match tokens {
         [Token::Close, rest @ ..] => Some((Part::End, rest)),
         [Token::Rectangle, Token::Open, rest @ ..] => Some((Part::Begin, rest)),
-        [Token::Name(property), Token::Colon, Token::Number(number), behind @ ..] => {
+        [
+            Token::Name(property),
+            Token::Colon,
+            Token::Number(number),
+            behind @ ..,
+        ] => {
             let part = Part::Value(*property, *number);
             ended(behind).map(|rest| (part, rest))
         }

@@ -1,5 +1,5 @@
 -- Where a value doesn't end, no part begins.
-use Rattle.std.proofs.Common.{rules, List, ◌≡◌, ℕ, ◌-◌, length, ◌∷◌, take, drop, subst, sym}
+use Rattle.std.proofs.Common.{rules, List, ◌≡◌, ◌∷◌, drop, subst, sym}
 use Rattle.std.proofs.lemmas.List.{take_rest}
 use Rattle.qml_parse.specs.declared.token.Token.{Token}
 use Rattle.qml_parse.specs.declared.token.Token.TheVariants.{Name, Color, Number, Paint, Colon}
