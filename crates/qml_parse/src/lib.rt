@@ -19,3 +19,6 @@ pub use fault::{DocFault, LoadFault, Span};
 pub use laws::one_reading;
 pub use name::Name;
 pub use reader::parse;
+
+#[cfg(test)]
+mod tests;
