@@ -14,3 +14,8 @@ Reads (Err (Unsupported _)) objects = ⊥
 abbrev pub IsRefusal : DocFault → Type 0
 IsRefusal (Unsupported at) = at ≡ record { line = 1; col = 1 }
 IsRefusal NoMemory = Unit {0}
+
+-- memory ran out, or the text is refused at its first byte and has no reading
+abbrev pub IsJust : DocFault → Type 0 → Type 0
+IsJust (Unsupported at) reading = (at ≡ record { line = 1; col = 1 }) × ¬ reading
+IsJust NoMemory reading = Unit {0}

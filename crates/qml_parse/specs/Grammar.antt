@@ -1,6 +1,5 @@
 -- The productions: which tokens spell a tree.
 use Rattle.std.specs.Prelude.{◌≡◌, ℕ, ◌⊎◌, List, [], ◌∷◌}
-use Rattle.qml_parse.specs.declared.token.Property.{Property}
 use Rattle.qml_parse.specs.declared.token.Token.{Token}
 use Rattle.qml_parse.specs.declared.token.Token.TheVariants.{Rectangle, Name, Color, Number, Paint, Open, Close, Colon, Semicolon}
 use Rattle.qml_parse.specs.Spelling.{IsSpaced}

@@ -1,5 +1,5 @@
 -- What holds of each document's objects.
-use Rattle.std.specs.Prelude.{◌≡◌, ℕ, ◌*◌, ◌^◌, ◌<◌, ◌≤◌, List, Option, Some, length, slice_get}
+use Rattle.std.specs.Prelude.{◌≡◌, ℕ, ◌*◌, ◌^◌, ◌<◌, ◌≤◌, List, Some, length, slice_get}
 use Rattle.qml_parse.specs.declared.document.RectDecl.{RectDecl}
 
 -- an object at this index: it stands in an earlier one, and its numbers and its colour are in range

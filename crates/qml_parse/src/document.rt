@@ -40,6 +40,14 @@ impl Document {
     ghost use Rattle.std.specs.Prelude.{◌≡◌};
     ghost use Rattle.qml_parse.specs.Lawful.{AreLawful};
 
+    /// A document of these objects.
+    pub(crate) fn new(objects: Vec<RectDecl>) -> Document
+        requires { AreLawful objects.items }
+        ensures { result ≡ objects.items }
+    {
+        Document { objects }
+    }
+
     /// The objects, each with the index of its owner among them.
     pub fn objects(&self) -> &[RectDecl]
         ensures objects { result.now ≡ self.now }

@@ -1,4 +1,5 @@
 use crate::name::Name;
+use std::alloc::{AllocError, AllocFailed};
 
 /// A place in a text.
 #[derive(Clone, Copy, Debug, PartialEq, Eq)]
@@ -19,6 +20,36 @@ pub enum DocFault {
     },
     /// Memory ran out.
     NoMemory,
+}
+
+impl DocFault {
+    /// The fault of a text that is no document. It names no place in the text: it stands at line 1,
+    /// column 1.
+    pub const REFUSED: DocFault = DocFault::Unsupported {
+        at: Span { line: 1, col: 1 },
+    };
+}
+
+impl From<AllocError> for DocFault {
+    ghost use Rattle.std.specs.Prelude.{◌≡◌};
+    ghost use Rattle.qml_parse.specs.declared.fault.DocFault.TheVariants.{NoMemory};
+
+    ghost from_gives = { λ _ fault. fault ≡ NoMemory };
+
+    fn from(_error: AllocError) -> DocFault {
+        DocFault::NoMemory
+    }
+}
+
+impl<T: Drop> From<AllocFailed<T>> for DocFault {
+    ghost use Rattle.std.specs.Prelude.{◌≡◌};
+    ghost use Rattle.qml_parse.specs.declared.fault.DocFault.TheVariants.{NoMemory};
+
+    ghost from_gives = { λ _ fault. fault ≡ NoMemory };
+
+    fn from(_error: AllocFailed<T>) -> DocFault {
+        DocFault::NoMemory
+    }
 }
 
 /// Why a document was not loaded.

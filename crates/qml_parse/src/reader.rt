@@ -3,8 +3,10 @@ ghost use Rattle.qml_parse.specs.declared.document.RectDecl.{RectDecl};
 ghost use Rattle.qml_parse.specs.Answers.{Reads, IsRefusal};
 ghost use Rattle.qml_parse.specs.Meaning.{IsDocument};
 
+use crate::builder::build;
 use crate::document::Document;
-use crate::fault::{DocFault, Span};
+use crate::fault::DocFault;
+use crate::lexer::tokens_of;
 use std::alloc::Global;
 
 /// Reads a document of at most 2^31 bytes.
@@ -12,7 +14,7 @@ use std::alloc::Global;
 /// # Errors
 ///
 /// `Unsupported` at line 1, column 1 if the bytes are no document; `NoMemory` if memory runs out.
-pub fn parse(_alloc: Global, bytes: &[u8]) -> Result<Document, DocFault>
+pub fn parse(alloc: Global, bytes: &[u8]) -> Result<Document, DocFault>
     requires { length bytes.now ≤ 2 ^ 31 }
     // What is read is a document with these objects.
     ensures read { IfOk result (λ objects. IsDocument bytes.now objects) }
@@ -20,6 +22,7 @@ pub fn parse(_alloc: Global, bytes: &[u8]) -> Result<Document, DocFault>
     ensures spelled { (objects : List RectDecl) → IsDocument bytes.now objects → Reads result objects }
     ensures refused { IfErr result IsRefusal }
 {
-    let _ = bytes;
-    Err(DocFault::NoMemory)
+    let tokens = tokens_of(alloc, bytes)?;
+    let objects = build(alloc, tokens.as_slice())?;
+    Ok(Document::new(objects))
 }

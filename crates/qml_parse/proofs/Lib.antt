@@ -1,0 +1,4 @@
+pub mod Steps
+pub mod Leading
+pub mod Cutting
+pub mod Whole
