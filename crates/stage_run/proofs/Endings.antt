@@ -48,24 +48,33 @@ copies-written image tree n e = ap (λ i. copies i n) e ∙ written-commands tre
 -- all frames were written
 pub ended-whole : {A : Type 0} (r : Result A Status) (run : Run) (image : List ℕ) (count : ℕ) (tree : Members) → count ≤ 100000 → Accepts run.held run.words count tree → image ≡ image_of tree
     → OnOk r (run.journal ≡ commands count) → OnOk r (Appends run.frames_before run.frames_after (copies image count)) → OnOk r (Ends run status.Done)
-ended-whole (Ok a) run image count tree few took e moved wrote = (count, tree, record {
-  few = few;
-  accepted = took;
-  moves = moved;
-  bytes = subst (Appends run.frames_before run.frames_after) (copies-written image tree count e ∙ ap (written tree) (sym moved)) wrote;
-})
+ended-whole (Ok a) run image count tree few took e moved wrote = (
+  count,
+  tree,
+  record {
+    few = few;
+    accepted = took;
+    moves = moved;
+    bytes = subst (Appends run.frames_before run.frames_after) (copies-written image tree count e ∙ ap (written tree) (sym moved)) wrote;
+  },
+)
 ended-whole (Err s) run image count tree few took e moved wrote = tt
 
 -- the first frames, as a part of the run
 part_of : (run : Run) (image : List ℕ) (count : ℕ) (tree : Members) → count ≤ 100000 → Accepts run.held run.words count tree → image ≡ image_of tree
     → IsPrefix image count run.journal run.frames_before run.frames_after → (n : ℕ) × (done : ℕ) × (t : Members) × IsPart run n done t
-part_of run image count tree few took e part = (count, part.done, tree, record {
-  few = few;
-  within = part.within;
-  accepted = took;
-  moves = part.moves;
-  bytes = subst (AppendsPart run.frames_before run.frames_after) (copies-written image tree part.done e ∙ ap (written tree) (sym part.moves)) part.bytes;
-})
+part_of run image count tree few took e part = (
+  count,
+  part.done,
+  tree,
+  record {
+    few = few;
+    within = part.within;
+    accepted = took;
+    moves = part.moves;
+    bytes = subst (AppendsPart run.frames_before run.frames_after) (copies-written image tree part.done e ∙ ap (written tree) (sym part.moves)) part.bytes;
+  },
+)
 
 -- the frames stopped
 stopped_with : (run : Run) (s : Status) (image : List ℕ) (count : ℕ) (tree : Members) → count ≤ 100000 → Accepts run.held run.words count tree → image ≡ image_of tree

@@ -118,12 +118,12 @@ shapes-children (child its members) corners owner next left top rest e inside at
     let so_many : next + size its ≡ length with_children = omega (arith, length-corners_after with_it its_children, length-children next (next + 1) its, one_more) in
     let there : slice_index_or with_it next origin ≡ here = rw e (index-last corners here) in
     let still : slice_index_or with_children owner origin ≡ record { left = left; top = top }
-        = index-corners_after with_it its_children owner (omega (arith, one_more, inside)) ∙ index-front corners (here ∷ []) owner (omega (arith, e, inside)) ∙ at in
+    = index-corners_after with_it its_children owner (omega (arith, one_more, inside)) ∙ index-front corners (here ∷ []) owner (omega (arith, e, inside)) ∙ at in
     with_object corners owner left top its (its_children ++ siblings) rest (painted_children here.left here.top its ++ painted_children left top members)
-        (place-within corners owner left top its at)
-        (joined with_it its_children siblings rest (painted_children here.left here.top its) (painted_children left top members)
-            (shapes-children its with_it next (next + 1) here.left here.top (siblings ++ rest) one_more (omega arith) there)
-            (shapes-children members with_children owner (next + size its) left top rest so_many (omega arith) still))
+    (place-within corners owner left top its at)
+    (joined with_it its_children siblings rest (painted_children here.left here.top its) (painted_children left top members)
+    (shapes-children its with_it next (next + 1) here.left here.top (siblings ++ rest) one_more (omega arith) there)
+    (shapes-children members with_children owner (next + size its) left top rest so_many (omega arith) still))
 
 -- a document's shapes are those of its tree
 pub shapes-flattened : (tree : Members) → shapes_from [] (flattened None 0 tree) ≡ painted 0 0 tree
@@ -131,9 +131,9 @@ unfolding shape_within
 shapes-flattened tree =
     let root = corner_within 0 0 tree in
     ap (λ shapes. shape_within 0 0 tree ∷ shapes)
-        (ap (shapes_from (root ∷ [])) (sym (append-nil (children 0 1 tree)))
-        ∙ shapes-children tree (root ∷ []) 0 1 root.left root.top [] refl (omega arith) refl
-        ∙ append-nil (painted_children root.left root.top tree))
+    (ap (shapes_from (root ∷ [])) (sym (append-nil (children 0 1 tree)))
+    ∙ shapes-children tree (root ∷ []) 0 1 root.left root.top [] refl (omega arith) refl
+    ∙ append-nil (painted_children root.left root.top tree))
 
 -- the shape of the next object joins those so far
 pub drawn-next : (objects rest : List RectDecl) (object : RectDecl) (corners : List Corner) (before after : Picture)
@@ -165,11 +165,11 @@ pub near-next : (corners : List Corner) (corner : Corner) → AreNear corners �
 near-next corners corner near left top i inside =
     let P : ℕ → Type 0 = λ k. ((slice_index_or (corners ++ corner ∷ []) k origin).left ≤ (k + 1) * 2 ^ 31) × ((slice_index_or (corners ++ corner ∷ []) k origin).top ≤ (k + 1) * 2 ^ 31) in
     below_more P (length corners)
-        (λ k below. let e = index-front corners (corner ∷ []) k below in
-            let B : Corner → Type 0 = λ at. (at.left ≤ (k + 1) * 2 ^ 31) × (at.top ≤ (k + 1) * 2 ^ 31) in subst B (sym e) (near k below))
-        (let B : Corner → Type 0 = λ at. (at.left ≤ (length corners + 1) * 2 ^ 31) × (at.top ≤ (length corners + 1) * 2 ^ 31) in
-            subst B (sym (index-last corners corner)) (left, top))
-        i (omega (arith, inside, length-append corners (corner ∷ [])))
+    (λ k below. let e = index-front corners (corner ∷ []) k below in
+    let B : Corner → Type 0 = λ at. (at.left ≤ (k + 1) * 2 ^ 31) × (at.top ≤ (k + 1) * 2 ^ 31) in subst B (sym e) (near k below))
+    (let B : Corner → Type 0 = λ at. (at.left ≤ (length corners + 1) * 2 ^ 31) × (at.top ≤ (length corners + 1) * 2 ^ 31) in
+    subst B (sym (index-last corners corner)) (left, top))
+    i (omega (arith, inside, length-append corners (corner ∷ [])))
 
 -- after the turn for an object the invariant of the drawing holds again
 pub drawn-turn : (objects : List RectDecl) (i : ℕ) (object : RectDecl) (corner : Corner) (area : ClipRect) (seen corners after : List Corner) (before canvas : Picture)
@@ -184,15 +184,16 @@ drawn-turn objects i object corner area seen corners after before canvas front s
     let here : area ≡ area_of (place_of corners object) object = subst (λ c. area ≡ area_of c object) placed covered in
     let known : IsDrawn objects (object ∷ drop (i + 1) objects) corners before = subst (λ rest. IsDrawn objects rest corners before) front drawn in
     let filled_here : (shapes : List Shape) → before ≡ drawing 640 480 shapes → canvas ≡ drawing 640 480 (shapes ++ shape_at (place_of corners object) object ∷ [])
-        = λ shapes e. filled shapes e ∙ ap (λ a. drawing 640 480 (shapes ++ shape_of a object.color ∷ [])) here in
+    = λ shapes e. filled shapes e ∙ ap (λ a. drawing 640 480 (shapes ++ shape_of a object.color ∷ [])) here in
     let drawn_after : IsDrawn objects (drop (i + 1) objects) (corners ++ place_of corners object ∷ []) canvas = drawn-next objects (drop (i + 1) objects) object corners before canvas known filled_here in
     let left_near : corner.left ≤ (length corners + 1) * 2 ^ 31 = omega (arith, left, ap length same) in
     let top_near : corner.top ≤ (length corners + 1) * 2 ^ 31 = omega (arith, top, ap length same) in
     let Q : List Corner → Type 0 = λ l. (length l ≡ i + 1) × AreNear l × IsDrawn objects (drop (i + 1) objects) l canvas in
-    subst Q (sym pushed)
-        (omega (arith, length-append corners (corner ∷ []), count),
-         near-next corners corner near left_near top_near,
-         subst (λ c. IsDrawn objects (drop (i + 1) objects) (corners ++ c ∷ []) canvas) (sym placed) drawn_after)
+    subst Q (sym pushed) (
+      omega (arith, length-append corners (corner ∷ []), count),
+      near-next corners corner near left_near top_near,
+      subst (λ c. IsDrawn objects (drop (i + 1) objects) (corners ++ c ∷ []) canvas) (sym placed) drawn_after,
+    )
 
 -- nothing is left behind the last object
 pub drop-end : (objects : List RectDecl) (i : ℕ) → length objects ≤ i → drop i objects ≡ []
@@ -200,3 +201,7 @@ drop-end [] zero past = refl
 drop-end [] (suc i) past = refl
 drop-end (object ∷ objects) zero past = absurd (omega arith)
 drop-end (object ∷ objects) (suc i) past = drop-end objects i (omega arith)
+
+-- trees of one list of objects are painted alike
+pub painted-flattened : (first second : Members) → flattened None 0 first ≡ flattened None 0 second → painted 0 0 first ≡ painted 0 0 second
+painted-flattened first second e = sym (shapes-flattened first) ∙ ap (shapes_from []) e ∙ shapes-flattened second

@@ -3,7 +3,7 @@ use Rattle.std.proofs.Common.{◌≡◌, ◌≢◌, ℕ, zero, suc, ◌+◌, ◌
 use Rattle.std.specs.Prelude.{replicate, slice_get, Some, None, min, unwrap_or}
 use Rattle.std.specs.List.{position_or_len, prefix_len, position}
 use Rattle.std.proofs.Math.Nat.{min_comm}
-use Rattle.std.proofs.lemmas.List.{append_assoc, drop_min, replicate_more}
+use Rattle.std.proofs.lemmas.List.{append_assoc, drop_min, length-replicate, replicate_more}
 use Rattle.std.proofs.lemmas.List.Sums.{prefix_len-le-length}
 use Rattle.std.proofs.lemmas.Grind.{common_steps}
 use Rattle.stage_run.specs.Script.{is_line_end, onto_first, lines_of, frame_word, IsScript, IsBadLine, IsFirstBadLine}
@@ -20,14 +20,15 @@ pub lines-first : (bytes : List ℕ) → 0 < length bytes → lines_of bytes ≡
 lines-first [] some = absurd (omega arith)
 lines-first (byte ∷ []) some =
     let at : (ends : Bool) → is_line_end byte ≡ ends → lines_of (byte ∷ []) ≡ take (position_or_len is_line_end (byte ∷ [])) (byte ∷ []) ∷ lines_of (drop (suc (position_or_len is_line_end (byte ∷ []))) (byte ∷ []))
-        = λ ends. elim ends as (λ b. is_line_end byte ≡ b → lines_of (byte ∷ []) ≡ take (position_or_len is_line_end (byte ∷ [])) (byte ∷ []) ∷ lines_of (drop (suc (position_or_len is_line_end (byte ∷ []))) (byte ∷ [])))
-            [ true ↦ λ e. rw e refl | false ↦ λ e. rw e refl ]
+    = λ ends. elim ends as (λ b. is_line_end byte ≡ b → lines_of (byte ∷ []) ≡ take (position_or_len is_line_end (byte ∷ [])) (byte ∷ []) ∷ lines_of (drop (suc (position_or_len is_line_end (byte ∷ []))) (byte ∷ [])))
+    [ true ↦ λ e. rw e refl | false ↦ λ e. rw e refl ]
     in at (is_line_end byte) refl
 lines-first (byte ∷ next ∷ bytes) some =
     let at : (ends : Bool) → is_line_end byte ≡ ends → lines_of (byte ∷ next ∷ bytes) ≡ take (position_or_len is_line_end (byte ∷ next ∷ bytes)) (byte ∷ next ∷ bytes) ∷ lines_of (drop (suc (position_or_len is_line_end (byte ∷ next ∷ bytes))) (byte ∷ next ∷ bytes))
-        = λ ends. elim ends as (λ b. is_line_end byte ≡ b → lines_of (byte ∷ next ∷ bytes) ≡ take (position_or_len is_line_end (byte ∷ next ∷ bytes)) (byte ∷ next ∷ bytes) ∷ lines_of (drop (suc (position_or_len is_line_end (byte ∷ next ∷ bytes))) (byte ∷ next ∷ bytes)))
-            [ true ↦ λ e. rw e refl
-            | false ↦ λ e. rw (len-longer byte (next ∷ bytes) e) (lines-longer byte (next ∷ bytes) _ _ e (lines-first (next ∷ bytes) (omega arith))) ]
+    = λ ends. elim ends as (λ b. is_line_end byte ≡ b → lines_of (byte ∷ next ∷ bytes) ≡ take (position_or_len is_line_end (byte ∷ next ∷ bytes)) (byte ∷ next ∷ bytes) ∷ lines_of (drop (suc (position_or_len is_line_end (byte ∷ next ∷ bytes))) (byte ∷ next ∷ bytes))) [
+      | true ↦ λ e. rw e refl
+      | false ↦ λ e. rw (len-longer byte (next ∷ bytes) e) (lines-longer byte (next ∷ bytes) _ _ e (lines-first (next ∷ bytes) (omega arith)))
+    ]
     in at (is_line_end byte) refl
 
 -- the first LF's place, or the text's length
@@ -89,9 +90,45 @@ lt_or_le (suc a) (suc b) = elim (lt_or_le a b) [ inl below ↦ inl (omega arith)
 pub script_is_good : (bytes : List ℕ) (count line : ℕ) → IsScript bytes count → IsFirstBadLine bytes line → ⊥
 script_is_good bytes count line script bad =
     elim (lt_or_le (line - 1) count) [
-        inl inside ↦
-            let told : IsBadLine (Some frame_word) line = rw (script.frames, get-replicate count (line - 1) frame_word inside) at bad.bad in
-            let few = script.few in let most : line ≡ 100001 = told refl in let counted = bad.counted in omega arith
+      | inl inside ↦
+          let told : IsBadLine (Some frame_word) line = rw (script.frames, get-replicate count (line - 1) frame_word inside) at bad.bad in
+          let few = script.few in let most : line ≡ 100001 = told refl in let counted = bad.counted in omega arith
       | inr past ↦
-            let told : IsBadLine None line = rw (script.frames, get-past_replicate count (line - 1) frame_word past) at bad.bad in told
+          let told : IsBadLine None line = rw (script.frames, get-past_replicate count (line - 1) frame_word past) at bad.bad in told
     ]
+
+get-take : (n i : ℕ) (xs : List (List ℕ)) → i < n → slice_get (take n xs) i ≡ slice_get xs i
+get-take zero i xs below = absurd (omega arith)
+get-take (suc n) i [] below = refl
+get-take (suc n) zero (x ∷ xs) below = refl
+get-take (suc n) (suc i) (x ∷ xs) below = get-take n i xs (omega arith)
+
+-- a bad line is not before the first bad one
+not_earlier : (bytes : List ℕ) (early late : ℕ) → IsFirstBadLine bytes early → IsFirstBadLine bytes late → early < late → ⊥
+not_earlier bytes early late bad later before =
+    let counted = bad.counted in
+    let near = later.near in
+    let i = early - 1 in
+    let n = late - 1 in
+    let inside : i < n = omega arith in
+    let seen : slice_get (lines_of bytes) i ≡ Some frame_word
+    = sym (get-take n i (lines_of bytes) inside) ∙ ap (λ lines. slice_get lines i) later.good_before ∙ get-replicate n i frame_word inside in
+    let told : IsBadLine (Some frame_word) early = subst (λ line. IsBadLine line early) seen bad.bad in
+    let most : early ≡ 100001 = told refl in
+    omega arith
+
+-- there is one first bad line
+pub bad_line_is_one : (bytes : List ℕ) (first second : ℕ) → IsFirstBadLine bytes first → IsFirstBadLine bytes second → first ≡ second
+bad_line_is_one bytes first second bad other =
+    elim (lt_or_le first second) [
+      | inl below ↦ absurd (not_earlier bytes first second bad other below)
+      | inr above ↦ elim (lt_or_le second first) [
+        | inl below ↦ absurd (not_earlier bytes second first other bad below)
+        | inr same ↦ omega arith
+      ]
+    ]
+
+-- there is one number of commands
+pub count_is_one : (bytes : List ℕ) (first second : ℕ) → IsScript bytes first → IsScript bytes second → first ≡ second
+count_is_one bytes first second script other =
+    sym (length-replicate first frame_word) ∙ ap length (sym script.frames ∙ other.frames) ∙ length-replicate second frame_word

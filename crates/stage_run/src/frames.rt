@@ -13,7 +13,12 @@ use rect_raster::{Canvas, write_ppm};
 /// Applies `count` frame commands: each joins the journal, and then its image is written. It stops at
 /// the first image that the sink doesn't take whole, with `WriteFault`, and with `NoMemory` where the
 /// journal has no room.
-pub fn write_frames<S: Sink>(canvas: &Canvas, count: u32, journal: &mut Journal, frames: &mut S) -> Result<(), Status>
+pub fn write_frames<S: Sink>(
+    canvas: &Canvas,
+    count: u32,
+    journal: &mut Journal,
+    frames: &mut S,
+) -> Result<(), Status>
     requires { journal.old ≡ [] }
     ensures later { S.faults frames.old ≤ S.faults frames.new }
     ensures moves { OnOk result (journal.new ≡ commands count) }

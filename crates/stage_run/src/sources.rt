@@ -49,7 +49,11 @@ fn commands_of(bytes: &[u8]) -> Result<u32, Status>
 
 /// The document of this name, or why there is none: `BadDocument` where the file is missing, too long
 /// or of another form, `ReadFault` where it could not be read, or `NoMemory`.
-pub fn fetch_document<F: Files>(alloc: Global, files: &mut F, name: &str) -> Result<Document, Status>
+pub fn fetch_document<F: Files>(
+    alloc: Global,
+    files: &mut F,
+    name: &str,
+) -> Result<Document, Status>
     requires { length name.now ≤ 65536 }
     ensures held { F.held files.new ≡ F.held files.old }
     ensures later { F.faults files.old ≤ F.faults files.new }

@@ -29,7 +29,13 @@ pub struct Outcome<F, S, N> {
 /// The first of these that fails gives the status: the words; the fetch of the script, of at most 4 MiB;
 /// its lines; the fetch of the document, of at most 1 MiB; its form; each frame's write. `NoMemory` may
 /// stand in place of any but `Usage`.
-pub fn run<F: Files, S: Sink, N: Sink>(alloc: Global, words: &Words, files: F, frames: S, notes: N) -> Outcome<F, S, N>
+pub fn run<F: Files, S: Sink, N: Sink>(
+    alloc: Global,
+    words: &Words,
+    files: F,
+    frames: S,
+    notes: N,
+) -> Outcome<F, S, N>
     ensures files { F.held result.files ≡ F.held files }
     ensures notes { result.notes ≡ notes }
     ensures cause { HasCause (run_of words.now (F.held files) (F.faults files) (F.faults result.files) (S.faults frames) (S.faults result.frames) (S.contents frames) (S.contents result.frames) result.journal) result.status }
@@ -50,7 +56,13 @@ pub fn run<F: Files, S: Sink, N: Sink>(alloc: Global, words: &Words, files: F, f
 }
 
 /// The run over a journal that is empty.
-fn play<F: Files, S: Sink>(alloc: Global, words: &Words, files: &mut F, frames: &mut S, journal: &mut Journal) -> Status
+fn play<F: Files, S: Sink>(
+    alloc: Global,
+    words: &Words,
+    files: &mut F,
+    frames: &mut S,
+    journal: &mut Journal,
+) -> Status
     requires { journal.old ≡ [] }
     ensures files { F.held files.new ≡ F.held files.old }
     ensures cause { HasCause (run_of words.now (F.held files.old) (F.faults files.old) (F.faults files.new) (S.faults frames.old) (S.faults frames.new) (S.contents frames.old) (S.contents frames.new) journal.new) result }
@@ -65,7 +77,13 @@ fn play<F: Files, S: Sink>(alloc: Global, words: &Words, files: &mut F, frames: 
 }
 
 /// The run after lawful words.
-fn perform<F: Files, S: Sink>(alloc: Global, words: &Words, files: &mut F, frames: &mut S, journal: &mut Journal) -> Result<(), Status>
+fn perform<F: Files, S: Sink>(
+    alloc: Global,
+    words: &Words,
+    files: &mut F,
+    frames: &mut S,
+    journal: &mut Journal,
+) -> Result<(), Status>
     requires lawful { AreLawful words.now }
     requires empty { journal.old ≡ [] }
     ensures files { F.held files.new ≡ F.held files.old }

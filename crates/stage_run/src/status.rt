@@ -38,8 +38,13 @@ pub fn status_line(alloc: Global, status: &Status) -> Result<Vec<u8>, AllocError
 {
     match status {
         Status::Done => Ok(Vec::new(alloc)),
-        Status::Usage => bytes_of(alloc, "qmlstage: usage: qmlstage MAIN SCRIPT [--size=WxH] [--schedule=LETTERS] [--stats]\n"),
-        Status::BadScript { line } => Ok(format!(in alloc; "qmlstage: bad script, line {line}\n")?.into_bytes()),
+        Status::Usage => bytes_of(
+            alloc,
+            "qmlstage: usage: qmlstage MAIN SCRIPT [--size=WxH] [--schedule=LETTERS] [--stats]\n",
+        ),
+        Status::BadScript { line } => Ok(format!(in alloc;
+            "qmlstage: bad script, line {line}\n"
+        )?.into_bytes()),
         Status::BadDocument { fault } => load_fault_line(alloc, fault),
         Status::ReadFault => bytes_of(alloc, "qmlstage: read fault\n"),
         Status::WriteFault => bytes_of(alloc, "qmlstage: write fault\n"),
@@ -57,8 +62,14 @@ fn load_fault_line(alloc: Global, fault: &LoadFault) -> Result<Vec<u8>, AllocErr
     ensures { IfOk result (λ line. line.items ≡ codes "qmlstage: " ++ load_fault_text fault.now) }
 {
     match fault {
-        LoadFault::Missing { name } => Ok(format!(in alloc; "qmlstage: {}: missing\n", name.as_str())?.into_bytes()),
-        LoadFault::TooLong { name } => Ok(format!(in alloc; "qmlstage: {}: too long\n", name.as_str())?.into_bytes()),
+        LoadFault::Missing { name } => Ok(format!(in alloc;
+            "qmlstage: {}: missing\n",
+            name.as_str()
+        )?.into_bytes()),
+        LoadFault::TooLong { name } => Ok(format!(in alloc;
+            "qmlstage: {}: too long\n",
+            name.as_str()
+        )?.into_bytes()),
         LoadFault::Doc { name, fault } => {
             let place = doc_fault_line(alloc, *fault)?;
             Ok(format!(in alloc; "qmlstage: {}{}", name.as_str(), place.as_str())?.into_bytes())

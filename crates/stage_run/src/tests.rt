@@ -6,7 +6,8 @@ use std::test::Fail;
 
 const RED: &str = r##"Rectangle { width: 2; height: 1; color: "#ff0000" }"##;
 
-const USAGE: &str = "qmlstage: usage: qmlstage MAIN SCRIPT [--size=WxH] [--schedule=LETTERS] [--stats]\n";
+const USAGE: &str =
+    "qmlstage: usage: qmlstage MAIN SCRIPT [--size=WxH] [--schedule=LETTERS] [--stats]\n";
 
 /// What a run is given: its words, its files, the number of the fetch that fails (0: none), and how
 /// many bytes the frames' sink has room for.
@@ -18,7 +19,10 @@ struct Given<'a> {
     room: usize,
 }
 
-fn outcome_of(alloc: Global, given: &Given<'_>) -> Result<Outcome<MemFiles, MemSink, MemSink>, AllocError> {
+fn outcome_of(
+    alloc: Global,
+    given: &Given<'_>,
+) -> Result<Outcome<MemFiles, MemSink, MemSink>, AllocError> {
     let mut files = MemFiles::new(alloc);
     for (name, text) in given.files {
         files.add(name, text.as_bytes())?;
@@ -36,9 +40,20 @@ fn outcome_of(alloc: Global, given: &Given<'_>) -> Result<Outcome<MemFiles, MemS
 }
 
 /// The run ends with this line and this exit status, with so many moves and so many bytes of frames.
-fn ends(rt: &impl Abort, alloc: Global, given: &Given<'_>, line: &str, exit: u8, moves: usize, bytes: usize) -> Result<(), Fail> {
+fn ends(
+    rt: &impl Abort,
+    alloc: Global,
+    given: &Given<'_>,
+    line: &str,
+    exit: u8,
+    moves: usize,
+    bytes: usize,
+) -> Result<(), Fail> {
     let outcome = outcome_of(alloc, given)?;
-    assert_eq!(rt; status_line(alloc, &outcome.status)?.as_slice(), line.as_bytes());
+    assert_eq!(rt;
+        status_line(alloc, &outcome.status)?.as_slice(),
+        line.as_bytes()
+    );
     assert_eq!(rt; exit_of(&outcome.status), exit, "{line}");
     assert_eq!(rt; outcome.journal.len(), moves, "{line}");
     assert_eq!(rt; outcome.frames.contents().len(), bytes, "{line}");
@@ -70,8 +85,24 @@ fn every_status_has_its_line_and_exit(rt: HostRuntime) -> Result<(), Fail> {
     let bad_document = [("Main.qml", "Item { }"), ("script.txt", "")];
     let table: [(&[(&str, &str)], u64, usize, &str, u8, usize, usize); 6] = [
         (&good, 0, 921_615, "", 0, 1, 921_615),
-        (&bad_script, 0, 921_615, "qmlstage: bad script, line 2\n", 3, 0, 0),
-        (&bad_document, 0, 0, "qmlstage: Main.qml:1:1: unsupported\n", 4, 0, 0),
+        (
+            &bad_script,
+            0,
+            921_615,
+            "qmlstage: bad script, line 2\n",
+            3,
+            0,
+            0,
+        ),
+        (
+            &bad_document,
+            0,
+            0,
+            "qmlstage: Main.qml:1:1: unsupported\n",
+            4,
+            0,
+            0,
+        ),
         (&good, 1, 921_615, "qmlstage: read fault\n", 5, 0, 0),
         (&good, 2, 921_615, "qmlstage: read fault\n", 5, 0, 0),
         (&good, 0, 921_614, "qmlstage: write fault\n", 6, 1, 921_614),
@@ -89,7 +120,14 @@ fn every_status_has_its_line_and_exit(rt: HostRuntime) -> Result<(), Fail> {
 }
 
 /// The run over these two files ends with this line and exit status, and writes nothing.
-fn refused(rt: &impl Abort, alloc: Global, document: &str, script: &str, line: &str, exit: u8) -> Result<(), Fail> {
+fn refused(
+    rt: &impl Abort,
+    alloc: Global,
+    document: &str,
+    script: &str,
+    line: &str,
+    exit: u8,
+) -> Result<(), Fail> {
     let given = Given {
         words: &["Main.qml", "script.txt"],
         files: &[("Main.qml", document), ("script.txt", script)],
@@ -121,13 +159,28 @@ fn files_that_are_missing(rt: HostRuntime) -> Result<(), Fail> {
         failing: 0,
         room: 0,
     };
-    ends(&rt, rt.alloc(), &given, "qmlstage: No.qml: missing\n", 4, 0, 0)
+    ends(
+        &rt,
+        rt.alloc(),
+        &given,
+        "qmlstage: No.qml: missing\n",
+        4,
+        0,
+        0,
+    )
 }
 
 #[test]
 fn files_that_are_too_long(rt: HostRuntime) -> Result<(), Fail> {
     let script = repeated(rt.alloc(), "\n", 4_194_304)?;
-    refused(&rt, rt.alloc(), RED, script.as_str(), "qmlstage: bad script, line 1\n", 3)?;
+    refused(
+        &rt,
+        rt.alloc(),
+        RED,
+        script.as_str(),
+        "qmlstage: bad script, line 1\n",
+        3,
+    )?;
     let script = repeated(rt.alloc(), "\n", 4_194_305)?;
     refused(&rt, rt.alloc(), RED, script.as_str(), NO_SCRIPT, 3)?;
     // 1,048,525 spaces and the 51 bytes of the document.
@@ -135,7 +188,14 @@ fn files_that_are_too_long(rt: HostRuntime) -> Result<(), Fail> {
     document.push_str(RED)?;
     refused(&rt, rt.alloc(), document.as_str(), "", "", 0)?;
     document.push_str(" ")?;
-    refused(&rt, rt.alloc(), document.as_str(), "", "qmlstage: Main.qml: too long\n", 4)
+    refused(
+        &rt,
+        rt.alloc(),
+        document.as_str(),
+        "",
+        "qmlstage: Main.qml: too long\n",
+        4,
+    )
 }
 
 #[test]
@@ -168,7 +228,13 @@ fn words_as_long_as_they_may_be(rt: HostRuntime) -> Result<(), Fail> {
     let too_long = format!(in rt.alloc(); "m{}.qml", stem.as_str())?;
     named(&rt, rt.alloc(), &[too_long.as_str(), "s"], USAGE, 2)?;
     let script = repeated(rt.alloc(), "s", 255)?;
-    named(&rt, rt.alloc(), &["Main.qml", script.as_str()], NO_SCRIPT, 3)?;
+    named(
+        &rt,
+        rt.alloc(),
+        &["Main.qml", script.as_str()],
+        NO_SCRIPT,
+        3,
+    )?;
     let script = repeated(rt.alloc(), "s", 256)?;
     named(&rt, rt.alloc(), &["Main.qml", script.as_str()], USAGE, 2)
 }
@@ -189,7 +255,12 @@ fn lines_of_a_script(rt: HostRuntime) -> Result<(), Fail> {
         ("frame", "qmlstage: write fault\n", 6, 1),
         ("frame\n", "qmlstage: write fault\n", 6, 1),
         (most.as_str(), "qmlstage: write fault\n", 6, 1),
-        (too_many.as_str(), "qmlstage: bad script, line 100001\n", 3, 0),
+        (
+            too_many.as_str(),
+            "qmlstage: bad script, line 100001\n",
+            3,
+            0,
+        ),
     ];
     for (script, line, exit, moves) in table {
         let given = Given {
@@ -205,7 +276,10 @@ fn lines_of_a_script(rt: HostRuntime) -> Result<(), Fail> {
 
 #[test]
 fn rectangles_stand_in_at_most_64(rt: HostRuntime) -> Result<(), Fail> {
-    for (levels, line, exit) in [(64, "", 0), (65, "qmlstage: Main.qml:1:1: unsupported\n", 4)] {
+    for (levels, line, exit) in [
+        (64, "", 0),
+        (65, "qmlstage: Main.qml:1:1: unsupported\n", 4),
+    ] {
         let mut text = repeated(rt.alloc(), "Rectangle {", levels)?;
         text.push_str(repeated(rt.alloc(), "}", levels)?.as_str())?;
         let given = Given {
@@ -239,7 +313,8 @@ fn two_frames_are_twice_the_image(rt: HostRuntime) -> Result<(), Fail> {
 
 #[test]
 fn a_sink_that_stops_has_a_prefix(rt: HostRuntime) -> Result<(), Fail> {
-    let start = b"P6\n640 480\n255\n\xff\x00\x00\xff\x00\x00\xff\xff\xff\xff\xff\xff\xff\xff\xff\xff\xff\xff\xff\xff\xff\xff\xff\xff\xff";
+    let start =
+        b"P6\n640 480\n255\n\xff\x00\x00\xff\x00\x00\xff\xff\xff\xff\xff\xff\xff\xff\xff\xff\xff\xff\xff\xff\xff\xff\xff\xff\xff";
     for room in 0..=40 {
         let given = Given {
             words: &["Main.qml", "script.txt"],
@@ -270,7 +345,13 @@ fn children_move_with_their_parents(rt: HostRuntime) -> Result<(), Fail> {
     let outcome = outcome_of(rt.alloc(), &given)?;
     let image = outcome.frames.contents();
     assert_eq!(rt; image.len(), 921_615);
-    assert_eq!(rt; &image[15..27], b"\xff\xff\xff\x00\x00\xff\x00\x00\xff\xff\xff\xff".as_slice());
-    assert_eq!(rt; &image[1935..1950], b"\x00\x00\xff\x00\xff\x00\x00\x00\x00\x00\xff\x00\x00\xff\x00".as_slice());
+    assert_eq!(rt;
+        &image[15..27],
+        b"\xff\xff\xff\x00\x00\xff\x00\x00\xff\xff\xff\xff".as_slice()
+    );
+    assert_eq!(rt;
+        &image[1935..1950],
+        b"\x00\x00\xff\x00\xff\x00\x00\x00\x00\x00\xff\x00\x00\xff\x00".as_slice()
+    );
     Ok(())
 }

@@ -64,7 +64,9 @@ impl Words {
     pub(crate) fn are_lawful(&self) -> bool
         ensures { IsTrue result ↔ AreLawful self.now }
     {
-        self.len() == 2 && is_main_name(self.at(0).as_bytes()) && is_script_name(self.at(1).as_bytes())
+        self.len() == 2
+            && is_main_name(self.at(0).as_bytes())
+            && is_script_name(self.at(1).as_bytes())
     }
 }
 

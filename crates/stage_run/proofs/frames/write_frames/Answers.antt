@@ -20,8 +20,9 @@ returns-in_err-push-clause-stopped g c =
 
 pub returns-in-Err-clause-stopped : goal.returns-in-Err-clause-stopped
 returns-in-Err-clause-stopped g c =
-    let S = g.S.Sink in
-    (grown-Rose (S.faults c.args.frames.now) (S.faults c.loop-done.frames) (S.faults c.write_ppm.new.sink) c.loop-done.invariant.2 c.in-Err.ensures.failed,
-     prefix-next (ppm c.args.canvas.now) c.args.count c.loop-done.done c.loop-done.journal c.push.new.self
-        (S.contents c.args.frames.now) (S.contents c.loop-done.frames) (S.contents c.write_ppm.new.sink)
-        c.loop-done-test.true c.loop-done.invariant.0 c.loop-done.invariant.1 c.in_ok-push.ensures.ok c.in-Err.ensures.part)
+    let S = g.S.Sink in (
+      grown-Rose (S.faults c.args.frames.now) (S.faults c.loop-done.frames) (S.faults c.write_ppm.new.sink) c.loop-done.invariant.2 c.in-Err.ensures.failed,
+      prefix-next (ppm c.args.canvas.now) c.args.count c.loop-done.done c.loop-done.journal c.push.new.self
+          (S.contents c.args.frames.now) (S.contents c.loop-done.frames) (S.contents c.write_ppm.new.sink)
+          c.loop-done-test.true c.loop-done.invariant.0 c.loop-done.invariant.1 c.in_ok-push.ensures.ok c.in-Err.ensures.part,
+    )
