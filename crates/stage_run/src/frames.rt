@@ -23,7 +23,8 @@ pub fn write_frames<S: Sink>(
     ensures later { S.faults frames.old ≤ S.faults frames.new }
     ensures moves { OnOk result (journal.new ≡ commands count) }
     ensures bytes { OnOk result (Appends (S.contents frames.old) (S.contents frames.new) (copies (ppm canvas.now) count)) }
-    ensures stopped { IfErr result (StopsWriting (ppm canvas.now) count journal.new (S.contents frames.old) (S.contents frames.new) (S.faults frames.old) (S.faults frames.new)) }
+    ensures stopped { IfErr result (StopsWriting (ppm canvas.now) count journal.new (S.contents frames.old)
+        (S.contents frames.new) (S.faults frames.old) (S.faults frames.new)) }
 {
     for done in 0..count {
         journal.push(Move::Command(done + 1))?;

@@ -25,7 +25,8 @@ pub struct Corner {
 
 /// The window with the document's rectangles in it, parents under their children.
 pub fn draw(alloc: Global, document: &Document) -> Result<Canvas, AllocError>
-    ensures { IfOk result (λ canvas. (tree : Members) → document.now ≡ flattened None 0 tree → canvas ≡ drawing WIDTH HEIGHT (painted 0 0 tree)) }
+    ensures { IfOk result (λ canvas. (tree : Members) → document.now ≡ flattened None 0 tree
+        → canvas ≡ drawing WIDTH HEIGHT (painted 0 0 tree)) }
 {
     let objects = document.objects();
     let mut canvas = Canvas::new(alloc, WIDTH, HEIGHT)?;

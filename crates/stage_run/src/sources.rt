@@ -24,7 +24,7 @@ pub fn fetch_script<F: Files>(alloc: Global, files: &mut F, name: &str) -> Resul
     ensures held { F.held files.new ≡ F.held files.old }
     ensures later { F.faults files.old ≤ F.faults files.new }
     ensures few { IfOk result (λ count. count ≤ 100000) }
-    ensures read { IfOk result (λ count. IfSome (F.held files.old) (λ m. HasScript (get m name.now) count)) }
+    ensures read { IfOk result (λ count. IfSome (F.held files.old) (λ told. HasScript (get told name.now) count)) }
     ensures refused { IfErr result (RefusesScript (F.held files.old) name.now (F.faults files.old) (F.faults files.new)) }
 {
     let mut bytes = Vec::new(alloc);
@@ -57,7 +57,8 @@ pub fn fetch_document<F: Files>(
     requires { length name.now ≤ 65536 }
     ensures held { F.held files.new ≡ F.held files.old }
     ensures later { F.faults files.old ≤ F.faults files.new }
-    ensures read { IfOk result (λ document. (tree : Members) × (document ≡ flattened None 0 tree) × IfSome (F.held files.old) (λ m. HasTree (get m name.now) tree)) }
+    ensures read { IfOk result (λ document. (tree : Members) × (document ≡ flattened None 0 tree)
+        × IfSome (F.held files.old) (λ told. HasTree (get told name.now) tree)) }
     ensures refused { IfErr result (RefusesDocument (F.held files.old) name.now (F.faults files.old) (F.faults files.new)) }
 {
     let mut bytes = Vec::new(alloc);

@@ -38,9 +38,14 @@ pub fn run<F: Files, S: Sink, N: Sink>(
 ) -> Outcome<F, S, N>
     ensures files { F.held result.files ≡ F.held files }
     ensures notes { result.notes ≡ notes }
-    ensures cause { HasCause (run_of words.now (F.held files) (F.faults files) (F.faults result.files) (S.faults frames) (S.faults result.frames) (S.contents frames) (S.contents result.frames) result.journal) result.status }
+    ensures cause { HasCause (run_of words.now (F.held files)
+        (F.faults files) (F.faults result.files) (S.faults frames) (S.faults result.frames)
+        (S.contents frames) (S.contents result.frames) result.journal) result.status }
     ensures usage { (AreLawful words.now → ⊥) → result.status ≡ statuses.Usage }
-    ensures complete { (m : Store) → IsSound (run_of words.now (F.held files) (F.faults files) (F.faults result.files) (S.faults frames) (S.faults result.frames) (S.contents frames) (S.contents result.frames) result.journal) m → IsDoneOrNoMemory result.status }
+    ensures complete { (told : Store) → IsSound (run_of words.now (F.held files)
+        (F.faults files) (F.faults result.files) (S.faults frames) (S.faults result.frames)
+        (S.contents frames) (S.contents result.frames) result.journal) told
+        → IsDoneOrNoMemory result.status }
 {
     let mut files = files;
     let mut frames = frames;
@@ -65,7 +70,9 @@ fn play<F: Files, S: Sink>(
 ) -> Status
     requires { journal.old ≡ [] }
     ensures files { F.held files.new ≡ F.held files.old }
-    ensures cause { HasCause (run_of words.now (F.held files.old) (F.faults files.old) (F.faults files.new) (S.faults frames.old) (S.faults frames.new) (S.contents frames.old) (S.contents frames.new) journal.new) result }
+    ensures cause { HasCause (run_of words.now (F.held files.old)
+        (F.faults files.old) (F.faults files.new) (S.faults frames.old) (S.faults frames.new)
+        (S.contents frames.old) (S.contents frames.new) journal.new) result }
 {
     if !words.are_lawful() {
         return Status::Usage;
@@ -87,8 +94,12 @@ fn perform<F: Files, S: Sink>(
     requires lawful { AreLawful words.now }
     requires empty { journal.old ≡ [] }
     ensures files { F.held files.new ≡ F.held files.old }
-    ensures done { OnOk result (Ends (run_of words.now (F.held files.old) (F.faults files.old) (F.faults files.new) (S.faults frames.old) (S.faults frames.new) (S.contents frames.old) (S.contents frames.new) journal.new) statuses.Done) }
-    ensures ended { IfErr result (Ends (run_of words.now (F.held files.old) (F.faults files.old) (F.faults files.new) (S.faults frames.old) (S.faults frames.new) (S.contents frames.old) (S.contents frames.new) journal.new)) }
+    ensures done { OnOk result (Ends (run_of words.now (F.held files.old)
+        (F.faults files.old) (F.faults files.new) (S.faults frames.old) (S.faults frames.new)
+        (S.contents frames.old) (S.contents frames.new) journal.new) statuses.Done) }
+    ensures ended { IfErr result (Ends (run_of words.now (F.held files.old)
+        (F.faults files.old) (F.faults files.new) (S.faults frames.old) (S.faults frames.new)
+        (S.contents frames.old) (S.contents frames.new) journal.new)) }
 {
     let count = fetch_script(alloc, files, words.at(1))?;
     let document = fetch_document(alloc, files, words.at(0))?;
