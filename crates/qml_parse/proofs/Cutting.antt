@@ -143,9 +143,9 @@ color_found (q ∷ h ∷ a ∷ b ∷ c ∷ d ∷ e ∷ f ∷ p ∷ rest) =
       text = 34 ∷ 35 ∷ a ∷ b ∷ c ∷ d ∷ e ∷ f ∷ 34 ∷ [];
       bytes_are = rw (q_is, h_is, p_is) refl;
       spelled = record {
-        r = (a, b);
-        g = (c, d);
-        b = (e, f);
+        red_digits = (a, b);
+        green_digits = (c, d);
+        blue_digits = (e, f);
         red = red;
         green = green;
         blue = blue;
@@ -266,9 +266,9 @@ number_first (b ∷ bytes) rest n d full is apart =
 color_first : (text rest : List ℕ) (color : ℕ) → IsColorText text color → first_token (text ++ rest) ≡ Some (Paint color, rest)
 unfolding first_token
 color_first text rest color c =
-    let red : hex_byte c.r.0 c.r.1 ≡ Some c.red = is_hex_byte c.r.0 c.r.1 c.red c.red_is in
-    let green : hex_byte c.g.0 c.g.1 ≡ Some c.green = is_hex_byte c.g.0 c.g.1 c.green c.green_is in
-    let blue : hex_byte c.b.0 c.b.1 ≡ Some c.blue = is_hex_byte c.b.0 c.b.1 c.blue c.blue_is in
+    let red : hex_byte c.red_digits.0 c.red_digits.1 ≡ Some c.red = is_hex_byte c.red_digits.0 c.red_digits.1 c.red c.red_is in
+    let green : hex_byte c.green_digits.0 c.green_digits.1 ≡ Some c.green = is_hex_byte c.green_digits.0 c.green_digits.1 c.green c.green_is in
+    let blue : hex_byte c.blue_digits.0 c.blue_digits.1 ≡ Some c.blue = is_hex_byte c.blue_digits.0 c.blue_digits.1 c.blue c.blue_is in
     rw (c.text_is, red, green, blue, c.color_is) refl
 
 -- the text begins with this literal

@@ -49,16 +49,16 @@ IsHexByte first second value =
 
 -- `#RRGGBB` in double quotes, and the colour as 0xffRRGGBB
 pub record IsColorText (text : List ℕ) (color : ℕ) : Type 0 where
-  pub r : ℕ × ℕ
-  pub g : ℕ × ℕ
-  pub b : ℕ × ℕ
+  pub red_digits : ℕ × ℕ
+  pub green_digits : ℕ × ℕ
+  pub blue_digits : ℕ × ℕ
   pub red : ℕ
   pub green : ℕ
   pub blue : ℕ
-  pub text_is : text ≡ 34 ∷ 35 ∷ r.0 ∷ r.1 ∷ g.0 ∷ g.1 ∷ b.0 ∷ b.1 ∷ 34 ∷ []
-  pub red_is : IsHexByte r.0 r.1 red
-  pub green_is : IsHexByte g.0 g.1 green
-  pub blue_is : IsHexByte b.0 b.1 blue
+  pub text_is : text ≡ 34 ∷ 35 ∷ red_digits.0 ∷ red_digits.1 ∷ green_digits.0 ∷ green_digits.1 ∷ blue_digits.0 ∷ blue_digits.1 ∷ 34 ∷ []
+  pub red_is : IsHexByte red_digits.0 red_digits.1 red
+  pub green_is : IsHexByte green_digits.0 green_digits.1 green
+  pub blue_is : IsHexByte blue_digits.0 blue_digits.1 blue
   pub color_is : color ≡ 255 * 2 ^ 24 + red * 2 ^ 16 + green * 2 ^ 8 + blue
 
 -- the token has this spelling

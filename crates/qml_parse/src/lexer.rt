@@ -1,9 +1,8 @@
-ghost use Rattle.std.specs.Prelude.{◌≡◌, ℕ, ◌≤◌, List, Option, Some, length, IfOk, IfErr, IfSome, option_map};
-ghost use Rattle.std.specs.Fmt.{decimal};
+ghost use Rattle.std.specs.Prelude.{◌≡◌, ◌≤◌, List, Option, Some, length, IfOk, IfErr, option_map};
 ghost use Rattle.qml_parse.specs.declared.token.Token.{Token};
 ghost use Rattle.qml_parse.specs.Answers.{IsJust};
 ghost use Rattle.qml_parse.specs.Lexing.{color_text, first_token, has_plain_start, hex_byte, number_of, one_more, opaque_of, word, word_len, word_or_number};
-ghost use Rattle.qml_parse.specs.Spelling.{IsSpaced, is_blank, is_in_word, behind_blanks, hex_digit};
+ghost use Rattle.qml_parse.specs.Spelling.{IsSpaced, behind_blanks, hex_digit, is_in_word};
 
 use crate::fault::DocFault;
 use crate::token::{Property, Token};
@@ -135,10 +134,21 @@ fn color_text(bytes: &[u8]) -> Option<(Token, &[u8])>
     ensures { option_map (λ x. (x.0, x.1.now)) result ≡ color_text bytes.now }
 {
     match bytes {
-        [b'"', b'#', r, s, g, h, b, c, b'"', rest @ ..] => {
-            let red = hex_byte(*r, *s)?;
-            let green = hex_byte(*g, *h)?;
-            let blue = hex_byte(*b, *c)?;
+        [
+            b'"',
+            b'#',
+            red_high,
+            red_low,
+            green_high,
+            green_low,
+            blue_high,
+            blue_low,
+            b'"',
+            rest @ ..,
+        ] => {
+            let red = hex_byte(*red_high, *red_low)?;
+            let green = hex_byte(*green_high, *green_low)?;
+            let blue = hex_byte(*blue_high, *blue_low)?;
             Some((Token::Paint(opaque_of(red, green, blue)), rest))
         }
         _ => None,

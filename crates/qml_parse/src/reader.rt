@@ -1,4 +1,4 @@
-ghost use Rattle.std.specs.Prelude.{◌≡◌, ◌^◌, ◌≤◌, List, length, IfOk, IfErr};
+ghost use Rattle.std.specs.Prelude.{◌^◌, ◌≤◌, List, length, IfOk, IfErr};
 ghost use Rattle.qml_parse.specs.declared.document.RectDecl.{RectDecl};
 ghost use Rattle.qml_parse.specs.Answers.{Reads, IsRefusal};
 ghost use Rattle.qml_parse.specs.Meaning.{IsDocument};
