@@ -1,1 +1,1 @@
-mod Topmost
+pub mod Topmost

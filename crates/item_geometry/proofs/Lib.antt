@@ -1,3 +1,3 @@
 mod Indices
-mod Painted
-mod Ordered
+pub mod Painted
+pub mod Ordered

@@ -9,7 +9,7 @@ use Rattle.std.specs.Prelude.{int_lt, sum_by, count_by, All, IsPermutation, IsSo
 use Rattle.std.proofs.lemmas.List.Elements.{All-from_recursion}
 use Rattle.std.specs.List.{range_with_len, AllByRecursion}
 use Rattle.std.specs.Ordering.{is_lt, int_cmp, nat_cmp, ordering_then}
-use Rattle.item_geometry.specs.PaintOrder.{z_of, paint_cmp, items_of, put, by_z, painting_order}
+use Rattle.item_geometry.specs.PaintOrder.{z_of, paint_cmp, items_of, placed, by_z, painting_order}
 
 -- an item goes before another
 abbrev goes_before : List ℤ → ℕ → ℕ → Bool
@@ -119,58 +119,58 @@ same_from_times z (x ∷ xs) (y ∷ ys) left right same =
 abbrev IsEarliest : ℕ → List ℕ → Type 0
 IsEarliest item others = AllByRecursion (λ other. item < other) others
 
-put-nil : (z : List ℤ) (item : ℕ) → put z item [] ≡ item ∷ []
-unfolding put
-put-nil z item = refl
+placed-nil : (z : List ℤ) (item : ℕ) → placed z item [] ≡ item ∷ []
+unfolding placed
+placed-nil z item = refl
 
-put-past : (z : List ℤ) (item next : ℕ) (rest : List ℕ) → int_lt (z_of z next) (z_of z item) ≡ true → put z item (next ∷ rest) ≡ next ∷ put z item rest
-unfolding put
-put-past z item next rest h = ap (λ b. cond b (next ∷ put z item rest) (item ∷ next ∷ rest)) h
+placed-past : (z : List ℤ) (item next : ℕ) (rest : List ℕ) → int_lt (z_of z next) (z_of z item) ≡ true → placed z item (next ∷ rest) ≡ next ∷ placed z item rest
+unfolding placed
+placed-past z item next rest h = ap (λ b. cond b (next ∷ placed z item rest) (item ∷ next ∷ rest)) h
 
-put-here : (z : List ℤ) (item next : ℕ) (rest : List ℕ) → int_lt (z_of z next) (z_of z item) ≡ false → put z item (next ∷ rest) ≡ item ∷ next ∷ rest
-unfolding put
-put-here z item next rest h = ap (λ b. cond b (next ∷ put z item rest) (item ∷ next ∷ rest)) h
+placed-here : (z : List ℤ) (item next : ℕ) (rest : List ℕ) → int_lt (z_of z next) (z_of z item) ≡ false → placed z item (next ∷ rest) ≡ item ∷ next ∷ rest
+unfolding placed
+placed-here z item next rest h = ap (λ b. cond b (next ∷ placed z item rest) (item ∷ next ∷ rest)) h
 
 -- what holds of the item and of each of the others holds of all
-AllByRecursion-put : (P : ℕ → Type 0) (z : List ℤ) (item : ℕ) (others : List ℕ) → P item → AllByRecursion P others → AllByRecursion P (put z item others)
-AllByRecursion-put P z item [] one all = subst (AllByRecursion P) (sym (put-nil z item)) (one, tt)
-AllByRecursion-put P z item (next ∷ rest) one all =
+AllByRecursion-placed : (P : ℕ → Type 0) (z : List ℤ) (item : ℕ) (others : List ℕ) → P item → AllByRecursion P others → AllByRecursion P (placed z item others)
+AllByRecursion-placed P z item [] one all = subst (AllByRecursion P) (sym (placed-nil z item)) (one, tt)
+AllByRecursion-placed P z item (next ∷ rest) one all =
     elim (cases_Bool (int_lt (z_of z next) (z_of z item))) [
-      | inl past ↦ subst (AllByRecursion P) (sym (put-past z item next rest past)) (all.0, AllByRecursion-put P z item rest one all.1)
-      | inr here ↦ subst (AllByRecursion P) (sym (put-here z item next rest here)) (one, all)
+      | inl past ↦ subst (AllByRecursion P) (sym (placed-past z item next rest past)) (all.0, AllByRecursion-placed P z item rest one all.1)
+      | inr here ↦ subst (AllByRecursion P) (sym (placed-here z item next rest here)) (one, all)
     ]
 
-IsFirst-put_here : (z : List ℤ) (item next : ℕ) (rest : List ℕ) → int_lt (z_of z next) (z_of z item) ≡ false → item < next → IsFirst z next rest → IsFirst z item (next ∷ rest)
-IsFirst-put_here z item next rest here earlier least =
+IsFirst-placed_here : (z : List ℤ) (item next : ℕ) (rest : List ℕ) → int_lt (z_of z next) (z_of z item) ≡ false → item < next → IsFirst z next rest → IsFirst z item (next ∷ rest)
+IsFirst-placed_here z item next rest here earlier least =
     let first = no_lesser_z (z_of z item) (z_of z next) item next here earlier in
     (first, IsFirst-earlier z item next rest first least)
 
-Rises-put : (z : List ℤ) (item : ℕ) (others : List ℕ) → IsEarliest item others → Rises z others → Rises z (put z item others)
-Rises-put z item [] earliest rises = subst (Rises z) (sym (put-nil z item)) (tt, tt)
-Rises-put z item (next ∷ rest) earliest rises =
+Rises-placed : (z : List ℤ) (item : ℕ) (others : List ℕ) → IsEarliest item others → Rises z others → Rises z (placed z item others)
+Rises-placed z item [] earliest rises = subst (Rises z) (sym (placed-nil z item)) (tt, tt)
+Rises-placed z item (next ∷ rest) earliest rises =
     elim (cases_Bool (int_lt (z_of z next) (z_of z item))) [
       | inl past ↦
-          let least = AllByRecursion-put (λ other. goes_before z other next ≡ false) z item rest (lesser_z (z_of z item) (z_of z next) item next past) rises.0 in
-          subst (Rises z) (sym (put-past z item next rest past)) (least, Rises-put z item rest earliest.1 rises.1)
+          let least = AllByRecursion-placed (λ other. goes_before z other next ≡ false) z item rest (lesser_z (z_of z item) (z_of z next) item next past) rises.0 in
+          subst (Rises z) (sym (placed-past z item next rest past)) (least, Rises-placed z item rest earliest.1 rises.1)
       | inr here ↦
-          subst (Rises z) (sym (put-here z item next rest here)) (IsFirst-put_here z item next rest here earliest.0 rises.0, rises)
+          subst (Rises z) (sym (placed-here z item next rest here)) (IsFirst-placed_here z item next rest here earliest.0 rises.0, rises)
     ]
 
-times-put : (z : List ℤ) (one item : ℕ) (others : List ℕ) → times one (put z item others) ≡ times one (item ∷ others)
-times-put z one item [] = ap (times one) (put-nil z item)
-times-put z one item (next ∷ rest) =
+times-placed : (z : List ℤ) (one item : ℕ) (others : List ℕ) → times one (placed z item others) ≡ times one (item ∷ others)
+times-placed z one item [] = ap (times one) (placed-nil z item)
+times-placed z one item (next ∷ rest) =
     elim (cases_Bool (int_lt (z_of z next) (z_of z item))) [
       | inl past ↦
-          let later = times-put z one item rest in
-          let split = ap (times one) (put-past z item next rest past) in omega (arith, later, split)
-      | inr here ↦ ap (times one) (put-here z item next rest here)
+          let later = times-placed z one item rest in
+          let split = ap (times one) (placed-past z item next rest past) in omega (arith, later, split)
+      | inr here ↦ ap (times one) (placed-here z item next rest here)
     ]
 
 by_z-nil : (z : List ℤ) → by_z z [] ≡ []
 unfolding by_z
 by_z-nil z = refl
 
-by_z-cons : (z : List ℤ) (item : ℕ) (items : List ℕ) → by_z z (item ∷ items) ≡ put z item (by_z z items)
+by_z-cons : (z : List ℤ) (item : ℕ) (items : List ℕ) → by_z z (item ∷ items) ≡ placed z item (by_z z items)
 unfolding by_z
 by_z-cons z item items = refl
 
@@ -178,18 +178,18 @@ IsEarliest-by_z : (z : List ℤ) (item from count : ℕ) → item < from → IsE
 IsEarliest-by_z z item from zero h = subst (IsEarliest item) (sym (by_z-nil z)) tt
 IsEarliest-by_z z item from (suc count) h =
     subst (IsEarliest item) (sym (by_z-cons z from (range_with_len (from + 1) count)))
-    (AllByRecursion-put (λ other. item < other) z from _ h (IsEarliest-by_z z item (from + 1) count (omega arith)))
+    (AllByRecursion-placed (λ other. item < other) z from _ h (IsEarliest-by_z z item (from + 1) count (omega arith)))
 
 Rises-by_z : (z : List ℤ) (from count : ℕ) → Rises z (by_z z (range_with_len from count))
 Rises-by_z z from zero = subst (Rises z) (sym (by_z-nil z)) tt
 Rises-by_z z from (suc count) =
     subst (Rises z) (sym (by_z-cons z from (range_with_len (from + 1) count)))
-    (Rises-put z from _ (IsEarliest-by_z z from (from + 1) count (omega arith)) (Rises-by_z z (from + 1) count))
+    (Rises-placed z from _ (IsEarliest-by_z z from (from + 1) count (omega arith)) (Rises-by_z z (from + 1) count))
 
 times-by_z : (z : List ℤ) (one : ℕ) (items : List ℕ) → times one (by_z z items) ≡ times one items
 times-by_z z one [] = ap (times one) (by_z-nil z)
 times-by_z z one (item ∷ items) =
-    ap (times one) (by_z-cons z item items) ∙ times-put z one item (by_z z items) ∙ ap (λ n. cond (one == item) 1 0 + n) (times-by_z z one items)
+    ap (times one) (by_z-cons z item items) ∙ times-placed z one item (by_z z items) ∙ ap (λ n. cond (one == item) 1 0 + n) (times-by_z z one items)
 
 -- a sorted list of the items is the order of painting
 pub painting_order-from_sort : (z : List ℤ) (order : List ℕ) → IsPermutation (items_of z) order → IsSorted (paint_cmp z) order → order ≡ painting_order z

@@ -180,7 +180,7 @@ colors_at-empty w h fill border x y empty =
     rw (empty, no_pixel)
 
 -- each pixel of a rectangle is painted once, in its colour, and no other pixel is
-colors_at-painted : (w h : ℤ) (fill : ℕ) (border : Option (ℤ × ℕ)) (x y : ℤ)
+pub colors_at-painted : (w h : ℤ) (fill : ℕ) (border : Option (ℤ × ℕ)) (x y : ℤ)
     → colors_at (painted w h fill border) x y ≡ pixel_colors w h fill border x y
 colors_at-painted w h fill border x y =
     elim (cases_Bool (int_le w (pos 0) || int_le h (pos 0))) [

@@ -16,15 +16,15 @@ paint_cmp z item other = ordering_then (int_cmp (z_of z item) (z_of z other)) (n
 abbrev pub items_of : List ℤ → List ℕ
 items_of z = range_with_len 0 (length z)
 
--- an item goes before the first of those that appear after it whose z is not below its own
-unfoldable pub put : List ℤ → ℕ → List ℕ → List ℕ
-put z item [] = item ∷ []
-put z item (next ∷ rest) = if int_lt (z_of z next) (z_of z item) then next ∷ put z item rest else item ∷ next ∷ rest
+-- an item among those that appear after it: it goes before the first whose z is not below its own
+unfoldable pub placed : List ℤ → ℕ → List ℕ → List ℕ
+placed z item [] = item ∷ []
+placed z item (next ∷ rest) = if int_lt (z_of z next) (z_of z item) then next ∷ placed z item rest else item ∷ next ∷ rest
 
 -- items by rising z, and those of one z in the order of their appearance
 unfoldable pub by_z : List ℤ → List ℕ → List ℕ
 by_z z [] = []
-by_z z (item ∷ items) = put z item (by_z z items)
+by_z z (item ∷ items) = placed z item (by_z z items)
 
 -- the order in which the items that have these z are painted
 abbrev pub painting_order : List ℤ → List ℕ

@@ -3,7 +3,7 @@ ghost use Rattle.item_geometry.specs.Rectangle.{painted, bordered, part_of, colo
 
 use crate::parts::{RectPart, Rects};
 
-/// One part.
+/// The part of this place, size and colour.
 fn part(x: i32, y: i32, w: i32, h: i32, argb: u32) -> RectPart
     ensures { result ≡ part_of x y w h argb }
 {
