@@ -1,0 +1,10 @@
+//! Which area a pointer is over, and which one holds its press. Places are in pixels.
+#![tactic(auto)]
+
+pub mod area;
+pub mod grab;
+#[cfg(test)]
+mod tests;
+
+pub use area::{Area, hit};
+pub use grab::Grab;

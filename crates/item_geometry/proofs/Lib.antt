@@ -1,0 +1,3 @@
+mod Indices
+pub mod Painted
+pub mod Ordered
