@@ -40,14 +40,15 @@ near_line line axis = line +ℤ axis.near_margin
 abbrev pub far_line : ℤ → AxisRecord → ℤ
 far_line line axis = line -ℤ axis.far_margin
 
--- twice the middle of a target, so that it is a whole number
+-- twice the centre line of a target, which is a whole number
 abbrev pub twice_middle : Target → ℤ
 twice_middle target = pos 2 *ℤ target.place +ℤ target.size
 
--- the size between two lines of which the second moved by the offset is in the middle
+-- the size of an item whose near line and centre are tied: twice the way from its near line to its centre
 abbrev pub size_from_near : ℤ → Target → AxisRecord → ℤ
 size_from_near near center axis = twice_middle center +ℤ pos 2 *ℤ axis.offset -ℤ pos 2 *ℤ near_line near axis
 
+-- the size of an item whose far line and centre are tied: twice the way from its centre to its far line
 abbrev pub size_from_far : ℤ → Target → AxisRecord → ℤ
 size_from_far far center axis = pos 2 *ℤ far_line far axis -ℤ twice_middle center -ℤ pos 2 *ℤ axis.offset
 
@@ -55,7 +56,7 @@ size_from_far far center axis = pos 2 *ℤ far_line far axis -ℤ twice_middle c
 abbrev pub place_from_far : ℤ → Target → AxisRecord → ℤ
 place_from_far far center axis = far_line far axis -ℤ size_from_far far center axis
 
--- the place of an item whose middle stands the offset after that of a target; a half is rounded toward 0
+-- the place of an item whose centre stands the offset after that of a target; a half is rounded toward 0
 abbrev pub centered_place : Target → AxisRecord → ℤ
 centered_place target axis = int_div (twice_middle target -ℤ axis.size) (pos 2) +ℤ axis.offset
 

@@ -1,5 +1,5 @@
-/// The lines of another item that an item is anchored to, in pixels of the parent. The item's near line
-/// is at `place`, its far line at `place + size`, and its centre halfway between.
+/// What an item is anchored to, in pixels of its parent: another item, whose lines are at `place` and
+/// `place + size` with the centre between them, or a line.
 #[derive(Clone, Copy, Debug, PartialEq, Eq)]
 pub struct Target {
     /// The near line: left or top.
@@ -27,8 +27,8 @@ pub struct AxisRecord {
     pub far_margin: i32,
     /// How far the centre lies to the right of, or below, the one that it is tied to.
     pub offset: i32,
-    /// The width or height that the item has where its anchors give none. It counts for the place of an
-    /// item that is centred, or tied by its right or bottom line alone.
+    /// The width or height that the item has where its anchors give none. It counts for the place
+    /// of an item that is centred, or tied by its right or bottom line alone.
     pub size: i32,
 }
 

@@ -24,8 +24,8 @@ pub(crate) enum Row {
     Free,
 }
 
-/// The row of a record: `fill` wins over `center_in`, which wins over the lines, and a centre counts
-/// where one of the lines beside it is free.
+/// The row of a record: `fill` wins over `center_in`, which wins over the lines, and a centre
+/// counts where one of the lines beside it is free.
 pub(crate) fn row_of(axis: &AxisRecord) -> Row
     ensures { result ≡ row_of axis.now }
 {

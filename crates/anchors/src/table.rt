@@ -114,8 +114,9 @@ fn size_in(row: Row, axis: &AxisRecord) -> Option<i128>
     }
 }
 
-/// The place or size of an item on one axis, in pixels: `None` exactly where the anchors leave it free,
-/// and [`Overflow`] exactly where it lies outside of the range of an `i32`, whatever the other one is.
+/// The place or size of an item on one axis, in pixels. It is `None` exactly where the anchors leave
+/// it free, and [`Overflow`] exactly where it lies outside of the range of an `i32`, whatever the
+/// other one is. Sums are made without bound.
 pub fn anchored(axis: &AxisRecord, column: AxisColumn) -> Result<Option<i32>, Overflow>
     ensures { result ≡ answer_of (value_of axis.now column) }
 {
