@@ -1,0 +1,11 @@
+//! Where a row and a column put their children, and the size that the row or column has of itself.
+#![tactic(auto)]
+
+mod axis;
+mod lengths;
+mod offsets;
+pub mod positioner;
+#[cfg(test)]
+mod tests;
+
+pub use positioner::{column, row};
