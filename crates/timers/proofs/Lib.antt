@@ -1,0 +1,4 @@
+pub mod Maps
+pub mod Multiples
+pub mod Queueing
+pub mod Keeping

@@ -1,0 +1,4 @@
+pub mod Timer
+pub mod Schedule
+pub mod Queue
+pub mod Sound
