@@ -4,6 +4,7 @@
 //! it holds.
 #![tactic(auto)]
 
+pub mod arithmetic;
 pub mod decl;
 pub mod document;
 pub mod eval_fault;
@@ -14,8 +15,10 @@ pub mod place;
 pub mod span;
 pub mod stmt;
 pub mod text;
+pub mod text_form;
 pub mod value;
 
+pub use arithmetic::{add, div, mul, rem, sub, truth};
 pub use decl::{Decl, Init, Member, MethodParam, Path, SignalParam};
 pub use document::{Document, Import};
 pub use eval_fault::EvalFault;
@@ -26,4 +29,5 @@ pub use place::{Place, Side};
 pub use span::{At, Span};
 pub use stmt::{AssignOp, LocalWord, Stmt};
 pub use text::Text;
+pub use text_form::to_text;
 pub use value::{Edge, LineRef, Value};

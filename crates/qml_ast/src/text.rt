@@ -1,4 +1,4 @@
-ghost use Rattle.std.specs.Prelude.{◌≡◌, ◌≤◌, ◌↔◌, IsTrue, length, IfOk};
+ghost use Rattle.std.specs.Prelude.{◌≡◌, ◌≤◌, ◌↔◌, IsTrue, length, string_bytes, string_len, IfOk};
 
 use std::alloc::{AllocError, Global};
 use std::marker::Model;
@@ -28,6 +28,14 @@ impl Text {
     {
         let text = String::from_str(alloc, text)?;
         Ok(Text { text })
+    }
+
+    /// The text itself, which has at most 65,536 bytes.
+    pub fn from_string(text: String) -> Text
+        requires { string_len text ≤ 65536 }
+        ensures { result ≡ string_bytes text }
+    {
+        Text { text }
     }
 
     /// An equal text.
