@@ -30,4 +30,4 @@ pub use span::{At, Span};
 pub use stmt::{AssignOp, LocalWord, Stmt};
 pub use text::Text;
 pub use text_form::to_text;
-pub use value::{Edge, LineRef, Value};
+pub use value::{Edge, LineRef, Value, equal};

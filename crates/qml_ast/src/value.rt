@@ -1,4 +1,7 @@
+ghost use Rattle.std.specs.Prelude.{◌≡◌, ◌↔◌, IsTrue, IfOk};
+
 use crate::text::Text;
+use std::alloc::{AllocError, Global};
 
 /// An edge of an item, or a line through its middle.
 #[derive(Clone, Copy, Debug, PartialEq, Eq)]
@@ -34,4 +37,35 @@ pub enum Value {
     Obj(u64),
     /// An edge of an item. `undefined` is none.
     Line(Option<LineRef>),
+}
+
+impl Value {
+    /// An equal value.
+    pub fn copy(&self, alloc: Global) -> Result<Value, AllocError>
+        ensures { IfOk result (λ copied. copied ≡ self.now) }
+    {
+        match self {
+            Value::Int(n) => Ok(Value::Int(*n)),
+            Value::Bool(b) => Ok(Value::Bool(*b)),
+            Value::Str(text) => Ok(Value::Str(text.copy(alloc)?)),
+            Value::Color(argb) => Ok(Value::Color(*argb)),
+            Value::Obj(serial) => Ok(Value::Obj(*serial)),
+            Value::Line(line) => Ok(Value::Line(*line)),
+        }
+    }
+}
+
+/// Whether the values are of one kind and equal. Nothing is converted.
+pub fn equal(a: &Value, b: &Value) -> bool
+    ensures { IsTrue result ↔ (a.now ≡ b.now) }
+{
+    match (a, b) {
+        (Value::Int(x), Value::Int(y)) => x == y,
+        (Value::Bool(x), Value::Bool(y)) => x == y,
+        (Value::Str(x), Value::Str(y)) => x.is(y),
+        (Value::Color(x), Value::Color(y)) => x == y,
+        (Value::Obj(x), Value::Obj(y)) => x == y,
+        (Value::Line(x), Value::Line(y)) => x == y,
+        _ => false,
+    }
 }
