@@ -10,7 +10,7 @@ use Rattle.qml_ast.specs.declared.span.Span.{Span}
 use Rattle.qml_ast.specs.declared.value.Value.{Value}
 use Rattle.qml_ast.specs.declared.value.Value.TheVariants.{Int, Bool as Flag, Str, Obj, Line}
 use Rattle.qml_grammar.specs.Marks.{same_mark}
-use Rattle.qml_grammar.specs.Words.{word_text, same_word, is_ordinary, is_unsupported}
+use Rattle.qml_grammar.specs.Words.{word_text, word_of, same_word, is_ordinary, is_unsupported}
 use Rattle.qml_grammar.specs.declared.mark.Mark.{Mark}
 use Rattle.qml_grammar.specs.declared.mark.Mark.TheVariants.{OpenBrace, OpenBracket, Plus, Minus, Star, Slash, Percent, Bang, Less, Greater, LessEqual, GreaterEqual, EqualEqual, BangEqual, TripleEqual, BangDoubleEqual}
 use Rattle.qml_grammar.specs.declared.word.Word.{Word}
@@ -45,6 +45,10 @@ abbrev pub last_of : List Token → Option Token
 last_of ts = slice_get ts (pred (length ts))
 
 -- Names and words
+
+-- what a name says
+unfoldable pub lexeme_of_name : List ℕ → Lexeme
+lexeme_of_name name = elim (word_of name) [ Some w ↦ word w | None ↦ plain name ]
 
 abbrev pub is_word_lexeme : Word → Lexeme → Bool
 is_word_lexeme w (word v) = same_word w v
