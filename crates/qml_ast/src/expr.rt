@@ -133,10 +133,7 @@ impl Expr {
 }
 
 /// An equal expression, where there is one.
-pub(crate) fn copy_optional(
-    expr: &Option<Expr>,
-    alloc: Global,
-) -> Result<Option<Expr>, AllocError>
+pub(crate) fn copy_optional(expr: &Option<Expr>, alloc: Global) -> Result<Option<Expr>, AllocError>
     ensures { IfOk result (λ copied. copied ≡ expr.now) }
 {
     match expr {

@@ -187,10 +187,7 @@ fn copy_boxed(stmt: &Boxed<Stmt>, alloc: Global) -> Result<Boxed<Stmt>, AllocErr
 
 // An equal part of a statement, where there is one.
 #[cycle(copy_stmt)]
-fn copy_part(
-    part: &Option<Boxed<Stmt>>,
-    alloc: Global,
-) -> Result<Option<Boxed<Stmt>>, AllocError>
+fn copy_part(part: &Option<Boxed<Stmt>>, alloc: Global) -> Result<Option<Boxed<Stmt>>, AllocError>
     ensures { IfOk result (λ copied. copied ≡ part.now) }
 {
     match part {
