@@ -1,2 +1,3 @@
+mod DocumentProbes
 mod ExpressionProbes
 pub mod Opened

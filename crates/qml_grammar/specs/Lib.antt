@@ -1,9 +1,12 @@
+pub mod DocumentGrammar
+pub mod Documents
 pub mod Ends
 pub mod ExpressionGrammar
 pub mod Expressions
 pub mod Inputs
 pub mod Lexemes
 pub mod Marks
+pub mod Names
 pub mod Samples
 pub mod StatementGrammar
 pub mod Statements
