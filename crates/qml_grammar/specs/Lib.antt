@@ -1,3 +1,5 @@
+pub mod Canonical
+pub mod CanonicalExpressions
 pub mod DocumentGrammar
 pub mod Documents
 pub mod Ends
