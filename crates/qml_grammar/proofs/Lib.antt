@@ -1,3 +1,2 @@
-mod DocumentProbes
-mod ExpressionProbes
+mod FaultCases
 pub mod Opened

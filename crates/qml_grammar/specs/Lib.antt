@@ -5,6 +5,7 @@ pub mod Documents
 pub mod Ends
 pub mod ExpressionGrammar
 pub mod Expressions
+pub mod FaultCases
 pub mod Inputs
 pub mod Lexemes
 pub mod Marks
