@@ -1,0 +1,2 @@
+mod FaultCases
+pub mod Opened

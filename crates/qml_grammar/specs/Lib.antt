@@ -1,0 +1,16 @@
+pub mod Canonical
+pub mod CanonicalExpressions
+pub mod DocumentGrammar
+pub mod Documents
+pub mod Ends
+pub mod ExpressionGrammar
+pub mod Expressions
+pub mod FaultCases
+pub mod Inputs
+pub mod Lexemes
+pub mod Marks
+pub mod Names
+pub mod Samples
+pub mod StatementGrammar
+pub mod Statements
+pub mod Words
