@@ -1,0 +1,4 @@
+pub mod Seen
+pub mod Readings
+pub mod Precedences
+pub mod Lists
