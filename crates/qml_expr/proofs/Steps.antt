@@ -9,9 +9,13 @@ use Rattle.qml_grammar.specs.Inputs.{Input, Parser, ahead, place, ◌>>=◌, whi
 use Rattle.qml_grammar.specs.Lexemes.{Token, is_mark}
 use Rattle.qml_grammar.specs.declared.mark.Mark.TheVariants.{Comma}
 use Rattle.qml_expr.specs.Lists.{listed}
+use Rattle.qml_expr.specs.Readings.{IsReading}
 use Rattle.qml_expr.specs.Precedences.{operand_at, operands_at, begins_at, operation_at}
 use Rattle.qml_expr.specs.declared.precedence.Precedence.{Precedence}
 use Rattle.qml_expr.specs.declared.precedence.Precedence.TheVariants.{Product, Sum, Order, Equality, And, Or}
+
+pub retold : (a b : Result (Expr × Input) DocFault) (r : Result Expr DocFault) (j : Input) → a ≡ b → IsReading b r j → IsReading a r j
+retold a b r j e h = subst (λ (q : Result (Expr × Input) DocFault). IsReading q r j) (sym e) h
 
 -- Levels
 
@@ -92,11 +96,11 @@ module _ {A : Type 0} (test : Option Token → Bool) (step : A → Parser A) whe
 
 -- Beginnings of loops
 
-bound : {A B : Type 0} (p : Parser A) (f : A → Parser B) (i j : Input) (x : A) → p i ≡ Ok (x, j) → (p >>= f) i ≡ f x j
-bound p f i j x e = ap (λ (q : Result (A × Input) DocFault). elim q [ Ok r ↦ f r.0 r.1 | Err g ↦ Err g ]) e
+bound : {A B : Type 0} (p : Parser A) (f : A → Parser B) (i j : Input) (x : A) → p i ≡ Ok (x, j) → ◌>>=◌ p f i ≡ f x j
+bound {A = A} p f i j x e = ap (λ (q : Result (A × Input) DocFault). elim q [ Ok r ↦ f r.0 r.1 | Err g ↦ Err g ]) e
 
-failed : {A B : Type 0} (p : Parser A) (f : A → Parser B) (i : Input) (g : DocFault) → p i ≡ Err g → (p >>= f) i ≡ Err g
-failed p f i g e = ap (λ (q : Result (A × Input) DocFault). elim q [ Ok r ↦ f r.0 r.1 | Err h ↦ Err h ]) e
+failed : {A B : Type 0} (p : Parser A) (f : A → Parser B) (i : Input) (g : DocFault) → p i ≡ Err g → ◌>>=◌ p f i ≡ Err g
+failed {A = A} p f i g e = ap (λ (q : Result (A × Input) DocFault). elim q [ Ok r ↦ f r.0 r.1 | Err h ↦ Err h ]) e
 
 pub operands_begin : (p : Precedence) (v : Inner) (i j : Input) (x : Expr) → operand_at p v i ≡ Ok (x, j) → operands_at p v i ≡ while_next (begins_at p) (operation_at p v) x j
 unfolding chain products sums orders equalities conjunctions disjunctions
@@ -131,3 +135,9 @@ listed_begin v i j x e = bound v.expr (λ y. while_next (is_mark Comma) (argumen
 pub listed_fault : (v : Inner) (i : Input) (f : DocFault) → v.expr i ≡ Err f → listed v i ≡ Err f
 unfolding listed
 listed_fault v i f e = failed v.expr (λ y. while_next (is_mark Comma) (argument v) (y ∷ [])) i f e
+
+pub listed_first : (v : Inner) (k : ℕ) (i j : Input) (x : Expr) (xs : List Expr) → xs ≡ x ∷ [] → v.expr i ≡ Ok (x, j) → k ≡ length j.rest → listed v i ≡ repeated (is_mark Comma) (argument v) k xs j
+listed_first v k i j x xs one e turns =
+    listed_begin v i j x e
+    ∙ ap (λ (ys : List Expr). while_next (is_mark Comma) (argument v) ys j) (sym one)
+    ∙ first_turn (is_mark Comma) (argument v) k xs j turns

@@ -1,5 +1,6 @@
 ghost use Rattle.std.specs.Prelude.{◌≡◌, IfOk, length};
 ghost use Rattle.qml_ast.specs.declared.fault.DocFault.TheVariants.{TooDeep};
+ghost use Rattle.qml_grammar.specs.Expressions.{begins_postfix};
 ghost use Rattle.qml_grammar.specs.Inputs as spec;
 ghost use Rattle.qml_grammar.specs.Lexemes.{is_mark, is_foreign, is_foreign_operand, atom_of, name_of, looked_up, unary_operator};
 ghost use Rattle.qml_expr.specs.Precedences.{table_at, begins_at};
@@ -157,6 +158,13 @@ impl<'a> Cursor<'a> {
             Precedence::And => self.sees(Mark::DoubleAmpersand),
             Precedence::Or => self.sees(Mark::DoubleBar),
         }
+    }
+
+    /// Whether a member or a call follows, behind what has it.
+    pub fn begins_postfix(&self) -> bool
+        ensures { result ≡ begins_postfix (spec.ahead (input_of self.now)) }
+    {
+        self.sees(Mark::Dot) || self.sees(Mark::OpenParen)
     }
 
     /// Goes behind the next token.

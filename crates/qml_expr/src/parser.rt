@@ -258,7 +258,7 @@ fn postfixes(
     let mut read = primary(alloc, levels, cursor)?;
     // Each turn takes a token.
     for _turn in 0..cursor.len() {
-        if !cursor.sees(Mark::Dot) && !cursor.sees(Mark::OpenParen) {
+        if !cursor.begins_postfix() {
             return Ok(read);
         }
         read = postfix(alloc, levels, read, cursor)?;
