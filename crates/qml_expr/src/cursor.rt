@@ -29,7 +29,7 @@ pub struct Cursor<'a> {
 #[tactic(auto, unfolding(crate::specs::Seen::input_of))]
 impl<'a> Cursor<'a> {
     /// How many tokens are left.
-    pub fn len(&self) -> usize
+    pub fn left(&self) -> usize
         ensures { result ≡ length (input_of self.now).rest }
     {
         self.rest.len()
@@ -151,10 +151,9 @@ impl<'a> Cursor<'a> {
         ensures { result ≡ begins_at precedence (spec.ahead (input_of self.now)) }
     {
         match precedence {
-            Precedence::Product
-            | Precedence::Sum
-            | Precedence::Order
-            | Precedence::Equality => self.operator(precedence).is_some(),
+            Precedence::Product | Precedence::Sum | Precedence::Order | Precedence::Equality => self
+                .operator(precedence)
+                .is_some(),
             Precedence::And => self.sees(Mark::DoubleAmpersand),
             Precedence::Or => self.sees(Mark::DoubleBar),
         }

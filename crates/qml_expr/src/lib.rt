@@ -4,7 +4,6 @@
 #![tactic(auto)]
 
 pub mod cursor;
-
 pub mod lexeme;
 pub mod natural;
 pub mod parser;
@@ -12,8 +11,10 @@ pub mod precedence;
 pub mod token;
 
 pub use cursor::Cursor;
-pub use parser::{expression, whole_expression};
 pub use lexeme::Lexeme;
 pub use natural::Natural;
+pub use parser::{expression, whole_expression};
 pub use token::Token;
 
+#[cfg(test)]
+mod tests;

@@ -125,7 +125,7 @@ fn operands(
 {
     let mut read = operand(alloc, precedence, levels, cursor)?;
     // Each turn takes a token.
-    for _turn in 0..cursor.len() {
+    for _turn in 0..cursor.left() {
         if !cursor.begins(precedence) {
             return Ok(read);
         }
@@ -216,11 +216,7 @@ fn join(
 // An operator before its operand, or an operand with what follows it.
 #[tactic(auto, unfolding(qml_grammar::specs::Expressions::unary_in))]
 #[cycle(expression)]
-fn unary(
-    alloc: Global,
-    levels: usize,
-    cursor: &mut Cursor<'_>,
-) -> Result<Boxed<Expr>, DocFault>
+fn unary(alloc: Global, levels: usize, cursor: &mut Cursor<'_>) -> Result<Boxed<Expr>, DocFault>
     ensures { IsReading (spec.unary_in (inner levels) (input_of cursor.old)) result (input_of cursor.new) }
 {
     match cursor.unary_operator() {
@@ -248,16 +244,12 @@ fn operated(
 
 // A primary expression with members and calls behind it.
 #[cycle(expression)]
-fn postfixes(
-    alloc: Global,
-    levels: usize,
-    cursor: &mut Cursor<'_>,
-) -> Result<Boxed<Expr>, DocFault>
+fn postfixes(alloc: Global, levels: usize, cursor: &mut Cursor<'_>) -> Result<Boxed<Expr>, DocFault>
     ensures { IsReading (spec.postfixes (inner levels) (input_of cursor.old)) result (input_of cursor.new) }
 {
     let mut read = primary(alloc, levels, cursor)?;
     // Each turn takes a token.
-    for _turn in 0..cursor.len() {
+    for _turn in 0..cursor.left() {
         if !cursor.begins_postfix() {
             return Ok(read);
         }
@@ -317,11 +309,7 @@ fn call(
 // Arguments, if there are any, and `)`.
 #[tactic(auto, unfolding(qml_grammar::specs::Expressions::arguments, qml_grammar::specs::Expressions::some_arguments, crate::specs::Lists::listed))]
 #[cycle(expression)]
-fn arguments(
-    alloc: Global,
-    levels: usize,
-    cursor: &mut Cursor<'_>,
-) -> Result<Items<Expr>, DocFault>
+fn arguments(alloc: Global, levels: usize, cursor: &mut Cursor<'_>) -> Result<Items<Expr>, DocFault>
     ensures { IsReading (spec.arguments (inner levels) (input_of cursor.old)) result (input_of cursor.new) }
 {
     if cursor.sees(Mark::CloseParen) {
@@ -335,18 +323,14 @@ fn arguments(
 
 // Arguments with commas between them.
 #[cycle(expression)]
-fn listed(
-    alloc: Global,
-    levels: usize,
-    cursor: &mut Cursor<'_>,
-) -> Result<Items<Expr>, DocFault>
+fn listed(alloc: Global, levels: usize, cursor: &mut Cursor<'_>) -> Result<Items<Expr>, DocFault>
     ensures { IsReading (listed (inner levels) (input_of cursor.old)) result (input_of cursor.new) }
 {
     let first = inner_expression(alloc, levels, cursor)?;
     let mut arguments = Items::new(alloc);
     arguments.push(first.into_inner())?;
     // Each turn takes a token.
-    for _turn in 0..cursor.len() {
+    for _turn in 0..cursor.left() {
         if !cursor.sees(Mark::Comma) {
             return Ok(arguments);
         }
@@ -376,11 +360,7 @@ fn argument(
 // An expression in parentheses, a literal or a name.
 #[tactic(auto, unfolding(qml_grammar::specs::Expressions::primary))]
 #[cycle(expression)]
-fn primary(
-    alloc: Global,
-    levels: usize,
-    cursor: &mut Cursor<'_>,
-) -> Result<Boxed<Expr>, DocFault>
+fn primary(alloc: Global, levels: usize, cursor: &mut Cursor<'_>) -> Result<Boxed<Expr>, DocFault>
     ensures { IsReading (spec.primary (inner levels) (input_of cursor.old)) result (input_of cursor.new) }
 {
     if cursor.sees(Mark::OpenParen) {
@@ -392,11 +372,7 @@ fn primary(
 // An expression in parentheses.
 #[tactic(auto, unfolding(qml_grammar::specs::Expressions::parens))]
 #[cycle(expression)]
-fn parens(
-    alloc: Global,
-    levels: usize,
-    cursor: &mut Cursor<'_>,
-) -> Result<Boxed<Expr>, DocFault>
+fn parens(alloc: Global, levels: usize, cursor: &mut Cursor<'_>) -> Result<Boxed<Expr>, DocFault>
     ensures { IsReading (spec.parens (inner levels) (input_of cursor.old)) result (input_of cursor.new) }
 {
     enter(levels, cursor)?;

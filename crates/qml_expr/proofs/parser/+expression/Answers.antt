@@ -1,4 +1,4 @@
-use Rattle.std.proofs.Common.{◌≡◌, ◌≢◌, ℕ, ◌+◌, ◌-◌, ◌∙◌, [], ◌∷◌, sym, arith, rules}
+use Rattle.std.proofs.Common.{◌≡◌, ◌≢◌, ◌-◌, ◌∙◌, [], ◌∷◌, arith, rules}
 use Rattle.std.proofs.lemmas.Grind.{common_steps}
 use Rattle.qml_ast.specs.declared.fault.DocFault.TheVariants.{NoMemory}
 use Rattle.qml_grammar.specs.Expressions.{inner, expr, unary_in, begins_postfix, postfix, postfixes, argument}
@@ -32,28 +32,28 @@ operands-returns-in_err-read t c =
     first_of (search rules, grind (arith, common_steps))
 
 pub operands-loop-turn-init : goal.operands-loop-turn-init
-operands-loop-turn-init t c = 
+operands-loop-turn-init t c =
     operands_begin c.args.precedence (inner c.args.levels) (input_of c.args.cursor.now) (input_of c.operand.new.cursor) c.in_ok-read.read c.in_ok-read.ensures
-    ∙ first_turn (begins_at c.args.precedence) (operation_at c.args.precedence (inner c.args.levels)) (c.len-turn-end.result - 0) c.in_ok-read.read (input_of c.operand.new.cursor) (omega arith)
+    ∙ first_turn (begins_at c.args.precedence) (operation_at c.args.precedence (inner c.args.levels)) (c.left-turn-end.result - 0) c.in_ok-read.read (input_of c.operand.new.cursor) (omega arith)
 
 pub operands-returns-then-not-begins : goal.operands-returns-then-not-begins
 operands-returns-then-not-begins t c =
-    turn_stop (begins_at c.args.precedence) (operation_at c.args.precedence (inner c.args.levels)) (operands_at c.args.precedence (inner c.args.levels) (input_of c.args.cursor.now)) c.len-turn-end.result c.loop-turn._turn c.loop-turn.read (input_of c.loop-turn.cursor) c.loop-turn.invariant
+    turn_stop (begins_at c.args.precedence) (operation_at c.args.precedence (inner c.args.levels)) (operands_at c.args.precedence (inner c.args.levels) (input_of c.args.cursor.now)) c.left-turn-end.result c.loop-turn._turn c.loop-turn.read (input_of c.loop-turn.cursor) c.loop-turn.invariant
     (first_of (cc, search rules, grind (arith, common_steps)))
 
 pub operands-returns-in_err-read-2 : goal.operands-returns-in_err-read-2
 operands-returns-in_err-read-2 t c =
-    let e = λ (n : c.in_err-read-2.field-0.0 ≢ NoMemory). turn_fault (begins_at c.args.precedence) (operation_at c.args.precedence (inner c.args.levels)) (operands_at c.args.precedence (inner c.args.levels) (input_of c.args.cursor.now)) c.len-turn-end.result c.loop-turn._turn c.loop-turn.read (input_of c.loop-turn.cursor) c.in_err-read-2.field-0.0 c.loop-turn-test.true c.loop-turn.invariant (first_of (cc, search rules, grind (arith, common_steps))) (c.in_err-read-2.ensures n) in
+    let e = λ (n : c.in_err-read-2.field-0.0 ≢ NoMemory). turn_fault (begins_at c.args.precedence) (operation_at c.args.precedence (inner c.args.levels)) (operands_at c.args.precedence (inner c.args.levels) (input_of c.args.cursor.now)) c.left-turn-end.result c.loop-turn._turn c.loop-turn.read (input_of c.loop-turn.cursor) c.in_err-read-2.field-0.0 c.loop-turn-test.true c.loop-turn.invariant (first_of (cc, search rules, grind (arith, common_steps))) (c.in_err-read-2.ensures n) in
     first_of (search rules, grind (arith, common_steps))
 
 pub operands-loop-turn-preserved : goal.operands-loop-turn-preserved
 operands-loop-turn-preserved t c =
-    turn_on (begins_at c.args.precedence) (operation_at c.args.precedence (inner c.args.levels)) (operands_at c.args.precedence (inner c.args.levels) (input_of c.args.cursor.now)) c.len-turn-end.result c.loop-turn._turn c.loop-turn.read c.in_ok-read-2.read (input_of c.loop-turn.cursor) (input_of c.operation.new.cursor) c.loop-turn-test.true c.loop-turn.invariant
+    turn_on (begins_at c.args.precedence) (operation_at c.args.precedence (inner c.args.levels)) (operands_at c.args.precedence (inner c.args.levels) (input_of c.args.cursor.now)) c.left-turn-end.result c.loop-turn._turn c.loop-turn.read c.in_ok-read-2.read (input_of c.loop-turn.cursor) (input_of c.operation.new.cursor) c.loop-turn-test.true c.loop-turn.invariant
     (first_of (cc, search rules, grind (arith, common_steps)))
     c.in_ok-read-2.ensures
 
 pub operands-returns : goal.operands-returns
-operands-returns t c = turn_end (begins_at c.args.precedence) (operation_at c.args.precedence (inner c.args.levels)) (operands_at c.args.precedence (inner c.args.levels) (input_of c.args.cursor.now)) c.len-turn-end.result c.loop-turn._turn c.loop-turn.read (input_of c.loop-turn.cursor) c.loop-turn-test.false c.loop-turn.invariant
+operands-returns t c = turn_end (begins_at c.args.precedence) (operation_at c.args.precedence (inner c.args.levels)) (operands_at c.args.precedence (inner c.args.levels) (input_of c.args.cursor.now)) c.left-turn-end.result c.loop-turn._turn c.loop-turn.read (input_of c.loop-turn.cursor) c.loop-turn-test.false c.loop-turn.invariant
 
 pub postfixes-returns-in_err-read : goal.postfixes-returns-in_err-read
 postfixes-returns-in_err-read t c =
@@ -61,28 +61,28 @@ postfixes-returns-in_err-read t c =
     first_of (search rules, grind (arith, common_steps))
 
 pub postfixes-loop-turn-init : goal.postfixes-loop-turn-init
-postfixes-loop-turn-init t c = 
+postfixes-loop-turn-init t c =
     postfixes_begin (inner c.args.levels) (input_of c.args.cursor.now) (input_of c.primary.new.cursor) c.in_ok-read.read c.in_ok-read.ensures
-    ∙ first_turn begins_postfix (postfix (inner c.args.levels)) (c.len-turn-end.result - 0) c.in_ok-read.read (input_of c.primary.new.cursor) (omega arith)
+    ∙ first_turn begins_postfix (postfix (inner c.args.levels)) (c.left-turn-end.result - 0) c.in_ok-read.read (input_of c.primary.new.cursor) (omega arith)
 
 pub postfixes-returns-then-not-begins_postfix : goal.postfixes-returns-then-not-begins_postfix
 postfixes-returns-then-not-begins_postfix t c =
-    turn_stop begins_postfix (postfix (inner c.args.levels)) (postfixes (inner c.args.levels) (input_of c.args.cursor.now)) c.len-turn-end.result c.loop-turn._turn c.loop-turn.read (input_of c.loop-turn.cursor) c.loop-turn.invariant
+    turn_stop begins_postfix (postfix (inner c.args.levels)) (postfixes (inner c.args.levels) (input_of c.args.cursor.now)) c.left-turn-end.result c.loop-turn._turn c.loop-turn.read (input_of c.loop-turn.cursor) c.loop-turn.invariant
     (first_of (cc, search rules, grind (arith, common_steps)))
 
 pub postfixes-returns-in_err-read-2 : goal.postfixes-returns-in_err-read-2
 postfixes-returns-in_err-read-2 t c =
-    let e = λ (n : c.in_err-read-2.field-0.0 ≢ NoMemory). turn_fault begins_postfix (postfix (inner c.args.levels)) (postfixes (inner c.args.levels) (input_of c.args.cursor.now)) c.len-turn-end.result c.loop-turn._turn c.loop-turn.read (input_of c.loop-turn.cursor) c.in_err-read-2.field-0.0 c.loop-turn-test.true c.loop-turn.invariant (first_of (cc, search rules, grind (arith, common_steps))) (c.in_err-read-2.ensures n) in
+    let e = λ (n : c.in_err-read-2.field-0.0 ≢ NoMemory). turn_fault begins_postfix (postfix (inner c.args.levels)) (postfixes (inner c.args.levels) (input_of c.args.cursor.now)) c.left-turn-end.result c.loop-turn._turn c.loop-turn.read (input_of c.loop-turn.cursor) c.in_err-read-2.field-0.0 c.loop-turn-test.true c.loop-turn.invariant (first_of (cc, search rules, grind (arith, common_steps))) (c.in_err-read-2.ensures n) in
     first_of (search rules, grind (arith, common_steps))
 
 pub postfixes-loop-turn-preserved : goal.postfixes-loop-turn-preserved
 postfixes-loop-turn-preserved t c =
-    turn_on begins_postfix (postfix (inner c.args.levels)) (postfixes (inner c.args.levels) (input_of c.args.cursor.now)) c.len-turn-end.result c.loop-turn._turn c.loop-turn.read c.in_ok-read-2.read (input_of c.loop-turn.cursor) (input_of c.postfix.new.cursor) c.loop-turn-test.true c.loop-turn.invariant
+    turn_on begins_postfix (postfix (inner c.args.levels)) (postfixes (inner c.args.levels) (input_of c.args.cursor.now)) c.left-turn-end.result c.loop-turn._turn c.loop-turn.read c.in_ok-read-2.read (input_of c.loop-turn.cursor) (input_of c.postfix.new.cursor) c.loop-turn-test.true c.loop-turn.invariant
     (first_of (cc, search rules, grind (arith, common_steps)))
     c.in_ok-read-2.ensures
 
 pub postfixes-returns : goal.postfixes-returns
-postfixes-returns t c = turn_end begins_postfix (postfix (inner c.args.levels)) (postfixes (inner c.args.levels) (input_of c.args.cursor.now)) c.len-turn-end.result c.loop-turn._turn c.loop-turn.read (input_of c.loop-turn.cursor) c.loop-turn-test.false c.loop-turn.invariant
+postfixes-returns t c = turn_end begins_postfix (postfix (inner c.args.levels)) (postfixes (inner c.args.levels) (input_of c.args.cursor.now)) c.left-turn-end.result c.loop-turn._turn c.loop-turn.read (input_of c.loop-turn.cursor) c.loop-turn-test.false c.loop-turn.invariant
 
 pub listed-returns-in_err-first : goal.listed-returns-in_err-first
 listed-returns-in_err-first t c =
@@ -90,25 +90,25 @@ listed-returns-in_err-first t c =
     first_of (search rules, grind (arith, common_steps))
 
 pub listed-loop-turn-init : goal.listed-loop-turn-init
-listed-loop-turn-init t c = 
+listed-loop-turn-init t c =
     let one : c.push.new.self ≡ c.in_ok-first.first ∷ [] = first_of (search rules, cc, grind (arith, common_steps)) in
-    listed_first (inner c.args.levels) (c.len-turn-end.result - 0) (input_of c.args.cursor.now) (input_of c.inner_expression.new.cursor) c.in_ok-first.first c.push.new.self one c.in_ok-first.ensures (omega arith)
+    listed_first (inner c.args.levels) (c.left-turn-end.result - 0) (input_of c.args.cursor.now) (input_of c.inner_expression.new.cursor) c.in_ok-first.first c.push.new.self one c.in_ok-first.ensures (omega arith)
 
 pub listed-returns-then-not-sees : goal.listed-returns-then-not-sees
 listed-returns-then-not-sees t c =
-    turn_stop (is_mark Comma) (argument (inner c.args.levels)) (listed (inner c.args.levels) (input_of c.args.cursor.now)) c.len-turn-end.result c.loop-turn._turn c.loop-turn.arguments (input_of c.loop-turn.cursor) c.loop-turn.invariant
+    turn_stop (is_mark Comma) (argument (inner c.args.levels)) (listed (inner c.args.levels) (input_of c.args.cursor.now)) c.left-turn-end.result c.loop-turn._turn c.loop-turn.arguments (input_of c.loop-turn.cursor) c.loop-turn.invariant
     (first_of (cc, search rules, grind (arith, common_steps)))
 
 pub listed-returns-in_err-arguments : goal.listed-returns-in_err-arguments
 listed-returns-in_err-arguments t c =
-    let e = λ (n : c.in_err-arguments.field-0.0 ≢ NoMemory). turn_fault (is_mark Comma) (argument (inner c.args.levels)) (listed (inner c.args.levels) (input_of c.args.cursor.now)) c.len-turn-end.result c.loop-turn._turn c.loop-turn.arguments (input_of c.loop-turn.cursor) c.in_err-arguments.field-0.0 c.loop-turn-test.true c.loop-turn.invariant (first_of (cc, search rules, grind (arith, common_steps))) (c.in_err-arguments.ensures n) in
+    let e = λ (n : c.in_err-arguments.field-0.0 ≢ NoMemory). turn_fault (is_mark Comma) (argument (inner c.args.levels)) (listed (inner c.args.levels) (input_of c.args.cursor.now)) c.left-turn-end.result c.loop-turn._turn c.loop-turn.arguments (input_of c.loop-turn.cursor) c.in_err-arguments.field-0.0 c.loop-turn-test.true c.loop-turn.invariant (first_of (cc, search rules, grind (arith, common_steps))) (c.in_err-arguments.ensures n) in
     first_of (search rules, grind (arith, common_steps))
 
 pub listed-loop-turn-preserved : goal.listed-loop-turn-preserved
 listed-loop-turn-preserved t c =
-    turn_on (is_mark Comma) (argument (inner c.args.levels)) (listed (inner c.args.levels) (input_of c.args.cursor.now)) c.len-turn-end.result c.loop-turn._turn c.loop-turn.arguments c.in_ok-arguments.arguments (input_of c.loop-turn.cursor) (input_of c.argument.new.cursor) c.loop-turn-test.true c.loop-turn.invariant
+    turn_on (is_mark Comma) (argument (inner c.args.levels)) (listed (inner c.args.levels) (input_of c.args.cursor.now)) c.left-turn-end.result c.loop-turn._turn c.loop-turn.arguments c.in_ok-arguments.arguments (input_of c.loop-turn.cursor) (input_of c.argument.new.cursor) c.loop-turn-test.true c.loop-turn.invariant
     (first_of (cc, search rules, grind (arith, common_steps)))
     c.in_ok-arguments.ensures
 
 pub listed-returns : goal.listed-returns
-listed-returns t c = turn_end (is_mark Comma) (argument (inner c.args.levels)) (listed (inner c.args.levels) (input_of c.args.cursor.now)) c.len-turn-end.result c.loop-turn._turn c.loop-turn.arguments (input_of c.loop-turn.cursor) c.loop-turn-test.false c.loop-turn.invariant
+listed-returns t c = turn_end (is_mark Comma) (argument (inner c.args.levels)) (listed (inner c.args.levels) (input_of c.args.cursor.now)) c.left-turn-end.result c.loop-turn._turn c.loop-turn.arguments (input_of c.loop-turn.cursor) c.loop-turn-test.false c.loop-turn.invariant

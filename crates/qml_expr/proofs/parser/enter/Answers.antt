@@ -1,5 +1,4 @@
-use Rattle.std.proofs.Common.{◌≡◌, ◌∙◌, ◌<◌, ap, sym, arith}
-use Rattle.std.specs.Prelude.{Err}
+use Rattle.std.proofs.Common.{arith}
 use Rattle.qml_expr.specs.Seen.{input_of}
 use Rattle.qml_expr.proofs.Steps.{enter_none, enter_more}
 use Rattle.qml_expr.proofs.parser.enter.Goals as goal
