@@ -1,2 +1,3 @@
 pub mod Arithmetic
 pub mod TextForm
+pub mod Alike
