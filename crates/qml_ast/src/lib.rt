@@ -37,3 +37,6 @@ pub use stmt::{AssignOp, LocalWord, Stmt};
 pub use text::Text;
 pub use text_form::to_text;
 pub use value::{Edge, LineRef, Value, equal};
+
+#[cfg(test)]
+mod tests;
