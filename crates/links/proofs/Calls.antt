@@ -12,6 +12,7 @@ use Rattle.links.specs.declared.cell.Cell.TheVariants.{Loose, Linked}
 use Rattle.links.specs.Cells.{with_neighbours, with_ends, link_in, last_in, lists_from, chains_of, previous_at, link_at, Represents}
 use Rattle.links.proofs.Putting.{gap_at, same_link}
 use Rattle.links.proofs.Walking.{AreDisjoint-Represents}
+use Rattle.links.proofs.Taking.{at_cell}
 use Rattle.links.proofs.Moves.{StandFor, StandFor-put, StandFor-take, own_ends}
 
 -- the last cell stands before the end
@@ -68,6 +69,17 @@ module _ (cells : Slots Cell) (ends : Slots Ends) (holds : Represents cells.slot
   StandFor-unlink cell link new_cells new_ends linked cells_are ends_are list i stands =
       let same : link ≡ link_at list (cells_in (lists_from cells.slots ends.slots) list) i = same_Some _ _ (sym linked ∙ known list i cell stands) in
       StandFor-take cells ends holds list (has_list _ i cell stands) i cell link new_cells new_ends stands same cells_are ends_are
+
+  -- the cell that is taken knows of no list
+  pub loose_taken : (cell : ℕ) (link : Link) (new_cells : Slots Cell) → link_in cells.slots cell ≡ Some link
+      → new_cells ≡ record cells { slots = with_neighbours (set cells.slots cell (Some Loose)) link link.next link.previous }
+      → (list i : ℕ) → StandsAt (chains_of cells ends) list i cell → link_in new_cells.slots cell ≡ None
+  loose_taken cell link new_cells linked cells_are list i stands =
+      let xs : List ℕ = cells_in (lists_from cells.slots ends.slots) list in
+      let same : link ≡ link_at list xs i = same_Some _ _ (sym linked ∙ known list i cell stands) in
+      ap (λ (s : Slots Cell). link_in s.slots cell) cells_are
+      ∙ (ap (λ (l : Link). link_in (with_neighbours (set cells.slots cell (Some Loose)) l l.next l.previous) cell) same
+      ∙ at_cell list i cell xs holds refl stands)
 
   -- the next cell that a cell of a list knows
   pub next_is : (cell : ℕ) (link : Link) → link_in cells.slots cell ≡ Some link → (list i : ℕ) → StandsAt (chains_of cells ends) list i cell

@@ -27,6 +27,10 @@ pub record StandFor (cells : Slots Cell) (ends : Slots Ends) (chains : Chains) :
 pub AreDisjoint-StandFor : {cells : Slots Cell} {ends : Slots Ends} {chains : Chains} → StandFor cells ends chains → AreDisjoint (chains_of cells ends)
 AreDisjoint-StandFor {cells} {ends} leads = AreDisjoint-Represents leads.holds ends.spare cells.spare
 
+-- a cell that knows of no list is in none
+pub IsLoose-StandFor : {cells : Slots Cell} {ends : Slots Ends} {chains : Chains} → StandFor cells ends chains → (cell : ℕ) → link_in cells.slots cell ≡ None → IsLoose (chains_of cells ends) cell
+IsLoose-StandFor leads cell none list place stands = none-some _ (sym none ∙ leads.holds.linked list place cell stands)
+
 -- where the cells and ends represent lists, they stand for them
 pub StandFor-Represents : (cells : Slots Cell) (ends : Slots Ends) (lists : List (Option (List ℕ))) (used : List Bool) → Represents cells.slots ends.slots lists → map is_some cells.slots ≡ used
     → StandFor cells ends (record { lists = lists; cells = used; spare_lists = ends.spare; spare_cells = cells.spare })

@@ -172,3 +172,8 @@ module _ (cells : Slots Cell) (ends : Slots Ends) (holds : Represents cells.slot
       (λ (apart : list ≢ number). cells_in-set_other lists number list None apart)
       (cases_eq list number)))
       refl)
+
+  -- a cell that is added knows of no list
+  pub loose_cell : (number : ℕ) (new_cells : Slots Cell) → number ≤ length cells.slots → new_cells ≡ record { slots = placed cells.slots number (Some Loose); spare = cells.spare - 1 } → link_in new_cells.slots number ≡ None
+  loose_cell number new_cells within cells_are =
+      ap (λ (s : Slots Cell). link_in s.slots number) cells_are ∙ ap (λ s. place_in (unwrap_or s None)) (slice_get-placed_same cells.slots number (Some Loose) within)

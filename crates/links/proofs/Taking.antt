@@ -50,7 +50,7 @@ module _ {cells : List (Option Cell)} {ends : List (Option Ends)} {lists : List 
   used : cell < length cells
   used = link_in_within cells cell _ (known i cell here)
 
-  at_cell : link_in after cell ≡ None
+  pub at_cell : link_in after cell ≡ None
   at_cell =
       neighbours_other taken place (slice_get xs (suc i)) (previous_at xs i) cell (not_before i cell (omega arith) here) (not_after i cell (omega arith) here)
       ∙ link_in-set_same cells cell (Some Loose) used

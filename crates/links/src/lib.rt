@@ -5,6 +5,8 @@ mod cell;
 pub mod links;
 pub mod node_key;
 mod pool;
+#[cfg(test)]
+mod tests;
 
 pub use links::Links;
 pub use node_key::NodeKey;

@@ -96,6 +96,8 @@ impl Links {
           spare_cells = self.old.spare_cells - 1;
         } }
 
+        ensures loose { IsLoose self.new result }
+
         // A number that was freed is used again before a new one.
         ensures new_number { ((cell : ℕ) → slice_get self.old.cells cell ≢ Some false)
             → result ≡ length self.old.cells }
@@ -178,6 +180,7 @@ impl Links {
         ensures after { (list place : ℕ) → StandsAt self.old list place cell → self.new ≡ record self.old {
           lists = slice_set self.old.lists list (Some (remove (cells_in self.old.lists list) place));
         } }
+        ensures loose { IsLoose self.new cell }
         ensures disjoint { AreDisjoint self.new }
     {
         let Some(place) = link_of(&self.cells, cell) else {

@@ -1,7 +1,7 @@
 use Rattle.std.proofs.Common.{◌≡◌, length, map, is_some, sym, ◌∙◌}
 use Rattle.std.proofs.lemmas.List.{length-map}
-use Rattle.links.proofs.Moves.{AreDisjoint-StandFor}
-use Rattle.links.proofs.Numbers.{StandFor-add_cell, unused_cell, freed_cell}
+use Rattle.links.proofs.Moves.{AreDisjoint-StandFor, IsLoose-StandFor}
+use Rattle.links.proofs.Numbers.{StandFor-add_cell, unused_cell, freed_cell, loose_cell}
 use Rattle.links.proofs.links.Links.add_cell.Goals as goal
 
 pub invariant_of-self : goal.invariant_of-self
@@ -20,3 +20,8 @@ returns-clause-new_number c =
 
 pub returns-clause-disjoint : goal.returns-clause-disjoint
 returns-clause-disjoint c = AreDisjoint-StandFor (StandFor-add_cell c.self.inside.cells c.self.inside.lists c.self.invariant c.add.result _ c.add.ensures.within c.add.ensures.vacant c.add.ensures.after)
+
+pub returns-clause-loose : goal.returns-clause-loose
+returns-clause-loose c =
+    IsLoose-StandFor (StandFor-add_cell c.self.inside.cells c.self.inside.lists c.self.invariant c.add.result _ c.add.ensures.within c.add.ensures.vacant c.add.ensures.after)
+    c.add.result (loose_cell c.self.inside.cells c.self.inside.lists c.self.invariant c.add.result _ c.add.ensures.within c.add.ensures.after)
