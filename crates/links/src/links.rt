@@ -75,7 +75,7 @@ impl Links {
           spare_lists = self.old.spare_lists - 1;
         } }
 
-        // A number that was freed is used again before a new one.
+        // Where no freed number may be used again, numbers go up by one.
         ensures new_number { ((list : ℕ) → slice_get self.old.lists list ≢ Some None)
             → result ≡ length self.old.lists }
         ensures disjoint { AreDisjoint self.new }
@@ -98,7 +98,7 @@ impl Links {
 
         ensures loose { IsLoose self.new result }
 
-        // A number that was freed is used again before a new one.
+        // Where no freed number may be used again, numbers go up by one.
         ensures new_number { ((cell : ℕ) → slice_get self.old.cells cell ≢ Some false)
             → result ≡ length self.old.cells }
         ensures disjoint { AreDisjoint self.new }

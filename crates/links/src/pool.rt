@@ -81,7 +81,7 @@ impl<T: Copy> Pool<T> {
           spare = self.old.spare - 1;
         } }
 
-        // A number that was removed is used again before a new one.
+        // Where no removed number may be used again, numbers go up by one.
         ensures new_number { ((number : ℕ) → slice_get self.old.slots number ≢ Some None)
             → result ≡ length self.old.slots }
     {
