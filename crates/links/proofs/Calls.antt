@@ -1,16 +1,16 @@
 -- What the calls that move cells between lists leave, from what they know.
-use Rattle.std.proofs.Common.{◌≡◌, ℕ, zero, suc, ◌+◌, ◌-◌, ◌<◌, ◌≤◌, true, List, [], ◌∷◌, ◌++◌, length, set, map, Option, Some, None, unwrap_or, is_some, IsSome, option_and_then, refl, ap, sym, subst, ◌∙◌, arith}
+use Rattle.std.proofs.Common.{◌≡◌, ℕ, zero, suc, ◌+◌, ◌-◌, ◌<◌, List, [], ◌∷◌, ◌++◌, length, set, Option, Some, None, unwrap_or, IsSome, option_and_then, refl, ap, sym, subst, ◌∙◌, arith}
 use Rattle.std.specs.List.{slice_get, insert, remove}
 use Rattle.std.proofs.lemmas.List.Edits.{insert_end}
 use Rattle.std.proofs.lemmas.Option.{slice_get_past, slice_get_within, none-some, same_Some}
 use Rattle.links.specs.Slots.{Slots}
-use Rattle.links.specs.Chains.{Chains, cells_in, HasList, HasCell, StandsAt, IsLinked, IsLoose, AreDisjoint}
+use Rattle.links.specs.Chains.{cells_in, HasList, HasCell, StandsAt, IsLinked, IsLoose, AreDisjoint}
 use Rattle.links.specs.declared.cell.Link.{Link}
 use Rattle.links.specs.declared.cell.Ends.{Ends}
 use Rattle.links.specs.declared.cell.Cell.{Cell}
 use Rattle.links.specs.declared.cell.Cell.TheVariants.{Loose, Linked}
 use Rattle.links.specs.Cells.{with_neighbours, with_ends, link_in, last_in, lists_from, chains_of, previous_at, link_at, Represents}
-use Rattle.links.proofs.Putting.{gap_at, same_link}
+use Rattle.links.proofs.Putting.{same_link}
 use Rattle.links.proofs.Walking.{AreDisjoint-Represents}
 use Rattle.links.proofs.Taking.{at_cell}
 use Rattle.links.proofs.Moves.{StandFor, StandFor-put, StandFor-take, own_ends}
@@ -42,7 +42,7 @@ module _ (cells : Slots Cell) (ends : Slots Ends) (holds : Represents cells.slot
   StandFor-push_back list cell previous new_cells new_ends has used loose previous_is cells_are ends_are =
       let xs : List ℕ = cells_in (lists_from cells.slots ends.slots) list in
       let last : previous ≡ previous_at xs (length xs) =
-          previous_is ∙ (ap (option_and_then (λ (es : Ends). es.last)) (own_ends cells ends holds list has) ∙ last_before xs (length xs) refl) in
+      previous_is ∙ (ap (option_and_then (λ (es : Ends). es.last)) (own_ends cells ends holds list has) ∙ last_before xs (length xs) refl) in
       let place_is = same_link list _ _ _ _ last (sym (slice_get_past xs (length xs) (omega arith))) in
       subst (λ (ys : List ℕ). StandFor new_cells new_ends (record (chains_of cells ends) { lists = set (lists_from cells.slots ends.slots) list (Some ys) }))
       (insert_end xs cell)

@@ -1,8 +1,7 @@
 -- The first and last cells of lists after one list got other cells.
-use Rattle.std.proofs.Common.{◌≡◌, ◌≢◌, ℕ, zero, suc, ◌-◌, ◌<◌, ◌≤◌, List, [], ◌∷◌, length, set, map, Option, Some, None, option_map, unwrap_or, refl, ap, sym, ◌∙◌, arith}
+use Rattle.std.proofs.Common.{◌≡◌, ℕ, zero, suc, ◌-◌, ◌<◌, ◌≤◌, List, [], ◌∷◌, length, set, Option, Some, None, option_map, unwrap_or, refl, ap, sym, ◌∙◌}
 use Rattle.std.specs.List.{slice_get, insert, remove}
 use Rattle.std.proofs.lemmas.Option.{slice_get-map, none-some, same_Some}
-use Rattle.std.proofs.lemmas.List.{length-set}
 use Rattle.links.specs.declared.cell.Link.{Link}
 use Rattle.links.specs.declared.cell.Ends.{Ends}
 use Rattle.links.specs.declared.cell.Cell.{Cell}
@@ -31,7 +30,7 @@ pub with_ends_is : (ends : List (Option Ends)) (place : Link) (next previous : O
 with_ends_is ends place next previous own within e =
     let changed = record own { first = if_none place.previous next own.first } in
     let there : unwrap_or (slice_get (set ends place.list (Some changed)) place.list) None ≡ Some changed =
-        ap (λ slot. unwrap_or slot None) (slice_get-set_same ends place.list (Some changed) within) in
+    ap (λ slot. unwrap_or slot None) (slice_get-set_same ends place.list (Some changed) within) in
     ap (λ es. with_last_before es place.list place.next previous) (with_first_after_is ends place.list place.previous next own e)
     ∙ (with_last_before_is (set ends place.list (Some changed)) place.list place.next previous changed there
     ∙ set-set ends place.list (Some changed) _)

@@ -1,18 +1,17 @@
 -- What each call leaves.
-use Rattle.std.proofs.Common.{◌≡◌, ◌≢◌, ℕ, zero, suc, ◌+◌, ◌-◌, ◌<◌, ◌≤◌, ⊎_elim, Bool, true, false, List, [], ◌∷◌, length, set, map, Option, Some, None, option_map, unwrap_or, is_some, IsSome, get_or, refl, ap, sym, subst, ◌∙◌, arith}
+use Rattle.std.proofs.Common.{◌≡◌, ℕ, zero, suc, ◌<◌, ◌≤◌, Bool, true, List, [], ◌∷◌, length, set, map, Option, Some, None, option_map, unwrap_or, is_some, IsSome, get_or, refl, ap, sym, subst, ◌∙◌, arith}
 use Rattle.std.proofs.Math.Seq.{map-set_same}
 use Rattle.std.proofs.lemmas.List.{length-map}
 use Rattle.std.specs.List.{slice_get, insert, remove}
-use Rattle.std.proofs.lemmas.Option.{slice_get_within, none-some, same_Some, unwrap_or-slice_get, slice_get-map}
+use Rattle.std.proofs.lemmas.Option.{slice_get_within, none-some, same_Some, unwrap_or-slice_get}
 use Rattle.links.specs.Slots.{Slots}
 use Rattle.links.specs.Chains.{Chains, cells_in, HasList, HasCell, StandsAt, IsLoose, AreDisjoint}
 use Rattle.links.specs.declared.cell.Link.{Link}
 use Rattle.links.specs.declared.cell.Ends.{Ends}
 use Rattle.links.specs.declared.cell.Cell.{Cell}
 use Rattle.links.specs.declared.cell.Cell.TheVariants.{Loose, Linked}
-use Rattle.links.specs.Cells.{next_changed, previous_changed, with_next, with_previous, with_next_after, with_previous_before, with_neighbours, with_ends, link_in, lists_from, chains_of, ends_of, previous_at, link_at, Represents}
+use Rattle.links.specs.Cells.{next_changed, previous_changed, with_next_after, with_previous_before, with_neighbours, with_ends, link_in, lists_from, chains_of, ends_of, previous_at, link_at, Represents}
 use Rattle.links.proofs.Pools.{occupied, occupied_within}
-use Rattle.links.proofs.Linking.{link_in_within}
 use Rattle.links.proofs.Walking.{lists_from-Represents, AreDisjoint-Represents}
 use Rattle.links.proofs.Relinking.{Represents-Relinks}
 use Rattle.links.proofs.Putting.{gap_at, Relinks-put}

@@ -1,11 +1,10 @@
 -- The neighbours of a place, and the ends of a list, after one cell came or went.
-use Rattle.std.proofs.Common.{◌≡◌, ◌≢◌, ℕ, zero, suc, ◌+◌, ◌-◌, ◌<◌, ◌≤◌, ⊎_elim, List, [], ◌∷◌, length, Option, Some, None, refl, ap, sym, ◌∙◌, arith}
+use Rattle.std.proofs.Common.{◌≡◌, ℕ, zero, suc, ◌-◌, ◌<◌, ◌≤◌, ⊎_elim, List, [], ◌∷◌, length, Option, Some, None, refl, ap, sym, ◌∙◌, arith}
 use Rattle.std.specs.List.{slice_get, insert, remove}
-use Rattle.std.proofs.lemmas.Option.{slice_get_past, slice_get_within, none-some}
+use Rattle.std.proofs.lemmas.Option.{slice_get_past, none-some}
 use Rattle.std.proofs.lemmas.List.Edits.{length-insert, length-remove}
 use Rattle.std.proofs.lemmas.Bool.{cases_lt}
-use Rattle.links.specs.declared.cell.Ends.{Ends}
-use Rattle.links.specs.Cells.{ends_of, previous_at}
+use Rattle.links.specs.Cells.{previous_at}
 use Rattle.links.proofs.Places.{slice_get-insert_below, slice_get-insert_at, slice_get-insert_above, slice_get-remove_below, slice_get-remove_above}
 
 module _ (xs : List ℕ) (i : ℕ) (x : ℕ) (within : i ≤ length xs) where

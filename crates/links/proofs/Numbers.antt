@@ -1,11 +1,11 @@
 -- What cells stand for after a cell or a list was added or freed.
-use Rattle.std.proofs.Common.{◌≡◌, ◌≢◌, ℕ, zero, suc, ◌+◌, ◌-◌, ◌<◌, ◌≤◌, ⊎_elim, Bool, true, false, List, [], ◌∷◌, length, set, map, Option, Some, None, option_map, unwrap_or, is_some, IsSome, refl, ap, sym, ◌∙◌, arith}
+use Rattle.std.proofs.Common.{◌≡◌, ◌≢◌, ℕ, ◌+◌, ◌-◌, ◌<◌, ◌≤◌, ⊎_elim, true, false, List, [], length, set, map, Option, Some, None, option_map, unwrap_or, is_some, IsSome, refl, ap, sym, ◌∙◌, arith}
 use Rattle.std.specs.List.{slice_get}
 use Rattle.std.proofs.lemmas.List.{length-map, map-set}
 use Rattle.std.proofs.lemmas.Option.{none-some, same_Some, slice_get-map}
 use Rattle.std.proofs.lemmas.Bool.{cases_eq}
 use Rattle.links.specs.Slots.{Slots, placed}
-use Rattle.links.specs.Chains.{Chains, cells_in, HasList, HasCell, StandsAt, IsLoose}
+use Rattle.links.specs.Chains.{cells_in, HasList, HasCell, IsLoose}
 use Rattle.links.specs.declared.cell.Link.{Link}
 use Rattle.links.specs.declared.cell.Ends.{Ends}
 use Rattle.links.specs.declared.cell.Cell.{Cell}
@@ -15,7 +15,6 @@ use Rattle.links.proofs.Places.{slice_get-placed_same, slice_get-placed_other, s
 use Rattle.links.proofs.Pools.{occupied, occupied_within}
 use Rattle.links.proofs.Linking.{link_in-set_same, link_in-set_other}
 use Rattle.links.proofs.Relinking.{cells_in-set_other}
-use Rattle.links.proofs.Ending.{ends_at}
 use Rattle.links.proofs.Moves.{StandFor, StandFor-Represents, is_there, is_linked_there}
 
 -- the ends of a list without cells
@@ -57,7 +56,7 @@ module _ (cells : Slots Cell) (ends : Slots Ends) (holds : Represents cells.slot
       ⊎_elim
       (λ (same : cell ≡ number).
       let now : link_in (placed cells.slots number (Some Loose)) cell ≡ None =
-          ap (link_in (placed cells.slots number (Some Loose))) same ∙ ap (λ s. place_in (unwrap_or s None)) (slice_get-placed_same cells.slots number (Some Loose) within) in
+      ap (link_in (placed cells.slots number (Some Loose))) same ∙ ap (λ s. place_in (unwrap_or s None)) (slice_get-placed_same cells.slots number (Some Loose) within) in
       absurd (none-some link (sym now ∙ e)))
       (λ (apart : cell ≢ number). sym (link_in-placed_other number cell (Some Loose) within apart) ∙ e)
       (cases_eq cell number)
@@ -90,7 +89,7 @@ module _ (cells : Slots Cell) (ends : Slots Ends) (holds : Represents cells.slot
       ⊎_elim
       (λ (same : cell ≡ number).
       let now : link_in (set cells.slots number None) cell ≡ None =
-          ap (link_in (set cells.slots number None)) same ∙ link_in-set_same cells.slots number None within in
+      ap (link_in (set cells.slots number None)) same ∙ link_in-set_same cells.slots number None within in
       absurd (none-some link (sym now ∙ e)))
       (λ (apart : cell ≢ number). sym (link_in-set_other cells.slots number cell None apart) ∙ e)
       (cases_eq cell number)

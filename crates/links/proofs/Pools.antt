@@ -1,7 +1,7 @@
 -- How many numbers a pool has freed, and that each change of it leaves it room.
-use Rattle.std.proofs.Common.{◌≡◌, ◌≢◌, ℕ, zero, suc, ◌+◌, ◌-◌, ◌<◌, ◌≤◌, max, ⊎_elim, Bool, true, false, eqb, List, [], ◌∷◌, ◌++◌, length, get_or, set, Option, Some, None, unwrap_or, IsSome, refl, ap, sym, ◌∙◌, arith, length-append}
+use Rattle.std.proofs.Common.{◌≡◌, ◌≢◌, ℕ, zero, suc, ◌+◌, ◌-◌, ◌<◌, ◌≤◌, ⊎_elim, true, false, eqb, List, [], ◌∷◌, ◌++◌, length, get_or, set, Option, Some, None, unwrap_or, IsSome, refl, ap, sym, ◌∙◌, arith, length-append}
 use Rattle.std.specs.List.{slice_get, list_any}
-use Rattle.std.proofs.lemmas.Option.{slice_get_within, slice_get-get_or, slice_get_past}
+use Rattle.std.proofs.lemmas.Option.{slice_get_within, slice_get-get_or}
 use Rattle.std.proofs.lemmas.List.{length-set}
 use Rattle.std.proofs.lemmas.Bool.{cases_eq}
 use Rattle.std.proofs.lemmas.Bool.Decides.{nat_tests}
@@ -29,8 +29,8 @@ length-le_from_IsApart xs n apart below =
     (IsDistinct-from_apart eqb xs
     (λ i j d low high.
     let differ : get_or xs i d ≢ get_or xs j d = λ e.
-        let same : i ≡ j = apart.place i j (get_or xs j d) (slice_get-get_or xs i d (omega arith) ∙ ap Some e) (slice_get-get_or xs j d high) in
-        omega arith in
+    let same : i ≡ j = apart.place i j (get_or xs j d) (slice_get-get_or xs i d (omega arith) ∙ ap Some e) (slice_get-get_or xs j d high) in
+    omega arith in
     grind (arith, nat_tests)))
     (λ q h. let found = place_of xs q h in below found.0 q found.1)
 
@@ -82,7 +82,7 @@ module _ {T : Type 0} {slots : List (Option T)} {freed : List ℕ} {spare slots_
   freed_bound_one x v e =
       let within = slice_get_within slots x (Some v) e in
       let longer : length (freed ++ x ∷ []) ≤ length slots = length-le_from_IsApart (freed ++ x ∷ []) (length slots) (IsApart-push x v e)
-          (λ i y f. simp length-set at (slice_get_within (set slots x None) y None (vacant-push x i y within f))) in
+      (λ i y f. simp length-set at (slice_get_within (set slots x None) y None (vacant-push x i y within f))) in
       omega (arith, length-append freed (x ∷ []))
 
   pub HasRoom-set : (x : ℕ) (v w : T) → slice_get slots x ≡ Some (Some v) → HasRoom (set slots x (Some w)) freed spare slots_capacity freed_capacity
@@ -118,7 +118,7 @@ pub HasRoom-add_freed : {T : Type 0} {slots : List (Option T)} {old : List ℕ} 
 HasRoom-add_freed {slots} {old} {spare} freed x v room e some =
     let last : slice_get old (length freed) ≡ Some x = ap (λ xs. slice_get xs (length freed)) e ∙ slice_get-push_end freed x in
     let held : (i y : ℕ) → slice_get freed i ≡ Some y → slice_get old i ≡ Some y = λ i y f.
-        ap (λ xs. slice_get xs i) e ∙ slice_get-push_below freed x i (slice_get_within freed i y f) ∙ f in
+    ap (λ xs. slice_get xs i) e ∙ slice_get-push_below freed x i (slice_get_within freed i y f) ∙ f in
     let count : length old ≡ length freed + 1 = ap length e ∙ length-append freed (x ∷ []) in
     record {
       apart = record { place = λ i j y f g. room.apart.place i j y (held i y f) (held j y g) };

@@ -1,14 +1,14 @@
 -- What cells stand for once one list has other cells.
-use Rattle.std.proofs.Common.{◌≡◌, ◌≢◌, ◌⊎◌, ⊎_elim, inl, inr, ℕ, zero, suc, ◌<◌, ◌≤◌, List, [], length, set, map, Option, Some, None, option_map, unwrap_or, refl, ap, sym, ◌∙◌, arith}
+use Rattle.std.proofs.Common.{◌≡◌, ◌≢◌, ◌⊎◌, ⊎_elim, inl, inr, ℕ, ◌<◌, List, [], length, set, Option, Some, None, option_map, unwrap_or, ap, sym, ◌∙◌}
 use Rattle.std.specs.List.{slice_get}
-use Rattle.std.proofs.lemmas.Option.{slice_get_within, none-some, same_Some}
+use Rattle.std.proofs.lemmas.Option.{none-some, same_Some}
 use Rattle.std.proofs.lemmas.List.{map-set}
 use Rattle.std.proofs.lemmas.Bool.{cases_eq}
 use Rattle.links.specs.Chains.{cells_in}
 use Rattle.links.specs.declared.cell.Link.{Link}
 use Rattle.links.specs.declared.cell.Ends.{Ends}
 use Rattle.links.specs.declared.cell.Cell.{Cell}
-use Rattle.links.specs.Cells.{link_in, ends_of, previous_at, link_at, Represents}
+use Rattle.links.specs.Cells.{link_in, ends_of, link_at, Represents}
 use Rattle.links.proofs.Places.{slice_get-set_same, slice_get-set_other}
 
 -- the number may be there

@@ -1,13 +1,12 @@
 -- Cells that know their neighbours stand for one thing only: what a walk along them finds.
-use Rattle.std.proofs.Common.{◌≡◌, ◌≢◌, ℕ, zero, suc, ◌+◌, ◌<◌, ◌≤◌, Bool, true, List, [], ◌∷◌, length, set, map, Option, Some, None, is_some, option_map, unwrap_or, IsSome, refl, ap, subst, sym, ◌∙◌, arith}
+use Rattle.std.proofs.Common.{◌≡◌, ℕ, zero, suc, ◌≤◌, true, List, [], ◌∷◌, length, map, Option, Some, None, is_some, option_map, unwrap_or, refl, ap, subst, sym, ◌∙◌, arith}
 use Rattle.std.specs.List.{slice_get}
-use Rattle.std.proofs.lemmas.Option.{slice_get_past, slice_get_within, slice_get-get_or, none-some, same_Some}
-use Rattle.links.specs.Slots.{IsApart}
+use Rattle.std.proofs.lemmas.Option.{none-some, same_Some}
 use Rattle.links.specs.Chains.{cells_in, AreDisjoint}
 use Rattle.links.specs.declared.cell.Link.{Link}
 use Rattle.links.specs.declared.cell.Ends.{Ends}
 use Rattle.links.specs.declared.cell.Cell.{Cell}
-use Rattle.links.specs.Cells.{link_in, next_in, walk, lists_from, ends_of, previous_at, link_at, Represents}
+use Rattle.links.specs.Cells.{link_in, next_in, walk, lists_from, ends_of, Represents}
 use Rattle.links.proofs.Linking.{link_in_within}
 use Rattle.links.proofs.Pools.{length-le_from_IsApart}
 

@@ -1,5 +1,5 @@
 -- Lists of cells, and what cells and lists there are.
-use Rattle.std.specs.Prelude.{◌≡◌, ◌≢◌, ℕ, Bool, true, List, [], Option, Some, None, IsSome, slice_get, unwrap_or}
+use Rattle.std.specs.Prelude.{◌≡◌, ℕ, Bool, true, List, [], Option, Some, None, IsSome, slice_get, unwrap_or}
 
 -- the cells of each list in order, by the list's number, and nothing for a number that no list has;
 -- which cell numbers are used; and how many lists and cells may be added

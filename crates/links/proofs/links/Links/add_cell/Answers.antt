@@ -1,4 +1,4 @@
-use Rattle.std.proofs.Common.{◌≡◌, length, map, is_some, sym, ◌∙◌}
+use Rattle.std.proofs.Common.{is_some, sym, ◌∙◌}
 use Rattle.std.proofs.lemmas.List.{length-map}
 use Rattle.links.proofs.Moves.{AreDisjoint-StandFor, IsLoose-StandFor}
 use Rattle.links.proofs.Numbers.{StandFor-add_cell, unused_cell, freed_cell, loose_cell}

@@ -1,4 +1,4 @@
-use Rattle.std.proofs.Common.{sym, ◌∙◌}
+use Rattle.std.proofs.Common.{◌∙◌}
 use Rattle.links.proofs.Moves.{AreDisjoint-StandFor}
 use Rattle.links.proofs.Numbers.{StandFor-add_list, unused_list, freed_list, length_ends}
 use Rattle.links.proofs.links.Links.add_list.Goals as goal

@@ -1,9 +1,5 @@
 use Rattle.std.proofs.Common.{sym, ◌∙◌}
-use Rattle.links.proofs.Moves.{StandFor}
 use Rattle.links.proofs.Walking.{AreDisjoint-Represents}
-use Rattle.links.proofs.Relinking.{Represents-Relinks}
-use Rattle.links.proofs.Putting.{Relinks-put}
-use Rattle.links.proofs.Taking.{Relinks-take}
 use Rattle.links.proofs.Ending.{ends_at, first_from}
 use Rattle.links.proofs.links.Links.first.Goals as goal
 

@@ -1,6 +1,4 @@
-use Rattle.links.specs.Cells.{chains_of}
-use Rattle.links.specs.Chains.{HasCell, IsLoose}
-use Rattle.links.proofs.Moves.{StandFor, AreDisjoint-StandFor}
+use Rattle.links.proofs.Moves.{AreDisjoint-StandFor}
 use Rattle.links.proofs.Numbers.{StandFor-free_cell}
 use Rattle.links.proofs.links.Links.free_cell.Goals as goal
 

@@ -1,4 +1,4 @@
-use Rattle.links.proofs.Moves.{StandFor, AreDisjoint-StandFor}
+use Rattle.links.proofs.Moves.{AreDisjoint-StandFor}
 use Rattle.links.proofs.Numbers.{StandFor-free_list}
 use Rattle.links.proofs.links.Links.free_list.Goals as goal
 

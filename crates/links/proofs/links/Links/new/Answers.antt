@@ -1,4 +1,3 @@
-use Rattle.std.proofs.Common.{◌≡◌, ap, ◌∙◌}
 use Rattle.links.proofs.Calls.{Represents-nil, lists_from-nil}
 use Rattle.links.proofs.links.Links.new.Goals as goal
 

@@ -1,4 +1,4 @@
-use Rattle.std.proofs.Common.{◌≡◌, ap, refl, ◌∙◌}
+use Rattle.std.proofs.Common.{ap, refl, ◌∙◌}
 use Rattle.links.specs.Slots.{Slots}
 use Rattle.links.specs.declared.cell.Cell.{Cell}
 use Rattle.links.proofs.Calls.{AreDisjoint-same}

@@ -44,5 +44,5 @@ returns-in-None-clause-vacant g c =
 pub returns-in-None-clause-after : goal.returns-in-None-clause-after
 returns-in-None-clause-after g c =
     let pushed : c.push_reserved.new.self.items ≡ placed c.self.inside.slots.items c.len-number.result (Some c.args.value) =
-        c.push_reserved.ensures.items ∙ sym (placed_end c.self.inside.slots.items c.len-number.result (Some c.args.value) (omega arith)) in
+    c.push_reserved.ensures.items ∙ sym (placed_end c.self.inside.slots.items c.len-number.result (Some c.args.value) (omega arith)) in
     rw (← c.self.view_is) (ap (λ slots. record { slots = slots; spare = c.self.inside.spare - 1 }) pushed)
