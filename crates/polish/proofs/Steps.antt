@@ -67,6 +67,6 @@ module _ {S : Type 0} (lays_out : S → ℕ → Bool → S → Type 0) (settles 
   unfolding ChangingRounds
   ChangingRounds-more count own n old mid new changed before same round is_changed =
       let last : Round lays_out settles count mid true new =
-          subst (λ (b : Bool). Round lays_out settles count mid b new) is_changed (subst (λ (m : ℕ). Round lays_out settles m mid changed new) same round) in
+      subst (λ (b : Bool). Round lays_out settles count mid b new) is_changed (subst (λ (m : ℕ). Round lays_out settles m mid changed new) same round) in
       let next : suc n ≡ n + 1 = omega arith in
       subst (λ (m : ℕ). ChangingRounds lays_out settles count m old new) next (mid, (before, last))

@@ -15,7 +15,7 @@ loop-positioner-preserved c =
       IsWaiting-after c.loop-positioner.self-inside.links c.push_back.new.self list _ _ waiting more,
       (
         cells_in-after c.loop-positioner.self-inside.links c.push_back.new.self list _ _ waiting more
-        ∙ (ap (λ xs. xs ++ c.loop-positioner.positioner ∷ []) c.loop-positioner.invariant.1.0 ∙ range-push c.loop-positioner.positioner),
+            ∙ (ap (λ xs. xs ++ c.loop-positioner.positioner ∷ []) c.loop-positioner.invariant.1.0 ∙ range-push c.loop-positioner.positioner),
         c.loop-positioner.invariant.1.1,
       ),
     )
