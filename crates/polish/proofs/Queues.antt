@@ -1,11 +1,11 @@
 -- The list of the positioners that wait.
-use Rattle.std.proofs.Common.{◌≡◌, ◌≢◌, ℕ, zero, suc, ◌+◌, ◌-◌, ◌<◌, ◌≤◌, Bool, true, false, List, [], ◌∷◌, ◌++◌, length, set, Option, Some, None, IsSome, unwrap_or, refl, ap, sym, ◌∙◌, arith}
+use Rattle.std.proofs.Common.{◌≡◌, ◌≢◌, ℕ, zero, suc, ◌+◌, ◌<◌, true, false, List, [], ◌∷◌, ◌++◌, set, Some, refl, ap, sym, ◌∙◌, arith}
 use Rattle.std.specs.Prelude.{replicate}
 use Rattle.std.specs.List.{slice_get, range_with_len}
 use Rattle.std.proofs.lemmas.List.{length-replicate, replicate-append-replicate}
 use Rattle.std.proofs.lemmas.Option.{none-some, same_Some}
 use Rattle.links.specs.Slots.{placed}
-use Rattle.links.specs.Chains.{Chains, cells_in, HasList, HasCell, StandsAt, IsLoose}
+use Rattle.links.specs.Chains.{Chains, cells_in, HasList, HasCell, IsLoose}
 use Rattle.links.proofs.Places.{placed_end}
 use Rattle.polish.specs.Waiting.{IsWaiting}
 

@@ -1,5 +1,5 @@
 -- What rounds of layout do, over what laying out one positioner and settling may do.
-use Rattle.std.specs.Prelude.{◌≡◌, ℕ, zero, suc, ◌+◌, ◌<◌, ◌≤◌, Bool, true, false, ◌||◌}
+use Rattle.std.specs.Prelude.{◌≡◌, ℕ, zero, suc, ◌+◌, ◌≤◌, Bool, true, false, ◌||◌}
 use Rattle.polish.specs.declared.rounds.Rounds.{Rounds}
 use Rattle.polish.specs.declared.rounds.Rounds.TheVariants.{Still, Loop}
 

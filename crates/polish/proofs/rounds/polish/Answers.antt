@@ -1,4 +1,4 @@
-use Rattle.std.proofs.Common.{◌≡◌, ◌∙◌, ap, refl, sym, [], ℕ, rules}
+use Rattle.std.proofs.Common.{◌≡◌, ◌∙◌, ap, refl, [], rules}
 use Rattle.polish.specs.Waiting.{Positioners}
 use Rattle.polish.proofs.Steps.{ChangingRounds-none, ChangingRounds-more}
 use Rattle.polish.proofs.rounds.polish.Goals as goal

@@ -1,4 +1,4 @@
-use Rattle.std.proofs.Common.{◌≡◌, ◌∙◌, ap, refl}
+use Rattle.std.proofs.Common.{◌∙◌, ap, refl}
 use Rattle.polish.specs.Waiting.{Positioners}
 use Rattle.polish.proofs.Steps.{IsLaidOut-none, IsLaidOut-more}
 use Rattle.polish.proofs.rounds.round.Goals as goal

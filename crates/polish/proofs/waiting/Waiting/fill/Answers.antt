@@ -1,4 +1,4 @@
-use Rattle.std.proofs.Common.{◌≡◌, ◌∙◌, ap, refl, arith, ◌++◌, ◌∷◌, []}
+use Rattle.std.proofs.Common.{◌∙◌, ap, arith, ◌++◌, ◌∷◌, []}
 use Rattle.polish.proofs.Queues.{IsLoose-IsWaiting, IsWaiting-after, cells_in-after, range-push, range-below}
 use Rattle.polish.proofs.waiting.Waiting.fill.Goals as goal
 

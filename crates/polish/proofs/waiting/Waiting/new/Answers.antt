@@ -1,9 +1,8 @@
-use Rattle.std.proofs.Common.{◌≡◌, ◌+◌, ◌≤◌, true, [], ◌∷◌, Some, List, Option, ℕ, ap, ◌∙◌, arith, length, sym}
+use Rattle.std.proofs.Common.{◌≡◌, ◌+◌, true, [], ◌∷◌, Some, ap, ◌∙◌, arith}
 use Rattle.std.specs.Prelude.{replicate}
-use Rattle.std.proofs.lemmas.List.{length-replicate}
 use Rattle.links.specs.Chains.{Chains}
 use Rattle.links.specs.Slots.{placed}
-use Rattle.polish.proofs.Queues.{no_false, placed-replicate}
+use Rattle.polish.proofs.Queues.{placed-replicate}
 use Rattle.polish.proofs.waiting.Waiting.new.Goals as goal
 
 pub loop-positioner-preserved : goal.loop-positioner-preserved
