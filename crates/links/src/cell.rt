@@ -115,7 +115,8 @@ pub(crate) fn last_of(lists: &Pool<Ends>, list: usize) -> Option<usize>
 pub(crate) fn put(cells: &mut Pool<Cell>, lists: &mut Pool<Ends>, cell: usize, place: Link)
     requires { IsSome (unwrap_or (slice_get cells.old.slots cell) None) }
     ensures cells { cells.new ≡ record cells.old {
-      slots = with_neighbours (slice_set cells.old.slots cell (Some (Cell.Linked place))) place (Some cell) (Some cell);
+      slots = with_neighbours (slice_set cells.old.slots cell (Some (Cell.Linked place))) place
+          (Some cell) (Some cell);
     } }
     ensures lists { lists.new ≡ record lists.old {
       slots = with_ends lists.old.slots place (Some cell) (Some cell);
@@ -129,7 +130,8 @@ pub(crate) fn put(cells: &mut Pool<Cell>, lists: &mut Pool<Ends>, cell: usize, p
 pub(crate) fn take(cells: &mut Pool<Cell>, lists: &mut Pool<Ends>, cell: usize, place: Link)
     requires { IsSome (unwrap_or (slice_get cells.old.slots cell) None) }
     ensures cells { cells.new ≡ record cells.old {
-      slots = with_neighbours (slice_set cells.old.slots cell (Some Cell.Loose)) place place.next place.previous;
+      slots = with_neighbours (slice_set cells.old.slots cell (Some Cell.Loose)) place
+          place.next place.previous;
     } }
     ensures lists { lists.new ≡ record lists.old {
       slots = with_ends lists.old.slots place place.next place.previous;

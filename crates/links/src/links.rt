@@ -27,7 +27,8 @@ impl Model for Links {
 
     ghost view = { λ l. chains_of l.cells l.lists };
 
-    ghost invariant = { λ l. Represents l.cells.slots l.lists.slots (lists_from l.cells.slots l.lists.slots) };
+    ghost invariant = { λ l. Represents l.cells.slots l.lists.slots
+        (lists_from l.cells.slots l.lists.slots) };
 }
 
 impl Links {
@@ -138,7 +139,8 @@ impl Links {
         requires cell { HasCell self.old cell }
         requires loose { IsLoose self.old cell }
         ensures after { self.new ≡ record self.old {
-          lists = slice_set self.old.lists list (Some (cells_in self.old.lists list ++ cell ∷ []));
+          lists = slice_set self.old.lists list
+              (Some (cells_in self.old.lists list ++ cell ∷ []));
         } }
         ensures disjoint { AreDisjoint self.new }
     {
@@ -157,9 +159,11 @@ impl Links {
         requires linked { IsLinked self.old at }
 
         // Wherever `at` stands.
-        ensures after { (list place : ℕ) → StandsAt self.old list place at → self.new ≡ record self.old {
-          lists = slice_set self.old.lists list (Some (insert (cells_in self.old.lists list) place cell));
-        } }
+        ensures after { (list place : ℕ) → StandsAt self.old list place at
+            → self.new ≡ record self.old {
+              lists = slice_set self.old.lists list
+                  (Some (insert (cells_in self.old.lists list) place cell));
+            } }
         ensures disjoint { AreDisjoint self.new }
     {
         let Some(link) = link_of(&self.cells, at) else {
@@ -177,9 +181,11 @@ impl Links {
         requires linked { IsLinked self.old cell }
 
         // Wherever the cell stands.
-        ensures after { (list place : ℕ) → StandsAt self.old list place cell → self.new ≡ record self.old {
-          lists = slice_set self.old.lists list (Some (remove (cells_in self.old.lists list) place));
-        } }
+        ensures after { (list place : ℕ) → StandsAt self.old list place cell
+            → self.new ≡ record self.old {
+              lists = slice_set self.old.lists list
+                  (Some (remove (cells_in self.old.lists list) place));
+            } }
         ensures loose { IsLoose self.new cell }
         ensures disjoint { AreDisjoint self.new }
     {

@@ -26,7 +26,8 @@ impl<T> Model for Pool<T> {
       spare = p.spare;
     } };
 
-    ghost invariant = { λ p. HasRoom p.slots.items p.freed.items p.spare (vec_capacity p.slots) (vec_capacity p.freed) };
+    ghost invariant = { λ p. HasRoom p.slots.items p.freed.items p.spare
+        (vec_capacity p.slots) (vec_capacity p.freed) };
 }
 
 impl<T: Copy> Pool<T> {
@@ -125,7 +126,9 @@ impl<T: Copy> Pool<T> {
     /// Gives the number another value.
     pub(crate) fn set(&mut self, number: usize, value: T)
         requires { IsSome (unwrap_or (slice_get self.old.slots number) None) }
-        ensures { self.new ≡ record self.old { slots = slice_set self.old.slots number (Some value) } }
+        ensures { self.new ≡ record self.old {
+          slots = slice_set self.old.slots number (Some value);
+        } }
     {
         self.slots[number] = Some(value);
     }

@@ -57,7 +57,8 @@ impl Waiting {
     /// The first that waits, which then does so no longer, or None where none is left.
     pub(crate) fn take_first(&mut self) -> Option<usize>
         ensures count { self.new.count ≡ self.old.count }
-        ensures first { MatchOption result (self.old.left ≡ []) (λ first. self.old.left ≡ first ∷ self.new.left) }
+        ensures first { MatchOption result (self.old.left ≡ [])
+            (λ first. self.old.left ≡ first ∷ self.new.left) }
         ensures none { result ≡ None → self.new ≡ self.old }
     {
         let first = self.links.first(self.list)?;
