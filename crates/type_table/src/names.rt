@@ -36,24 +36,24 @@ pub fn builtin(name: &str) -> Option<BuiltIn>
 
 /// The number of the type's signal of that name: how many of its signals come before it. `None` where
 /// it has none of that name. The signals that tell of changes of slots are not among them.
-pub fn signal(t: BuiltIn, name: &str) -> Option<u16>
-    ensures { result ≡ place_in (signals t) name.now }
+pub fn signal(built_in: BuiltIn, name: &str) -> Option<u16>
+    ensures { result ≡ place_in (signals built_in) name.now }
 {
-    place_in(signals_of(t), name)
+    place_in(signals_of(built_in), name)
 }
 
 /// The number of the type's method of that name: how many of its methods come before it. `None` where
 /// it has none of that name.
-pub fn method(t: BuiltIn, name: &str) -> Option<u16>
-    ensures { result ≡ place_in (methods t) name.now }
+pub fn method(built_in: BuiltIn, name: &str) -> Option<u16>
+    ensures { result ≡ place_in (methods built_in) name.now }
 {
-    place_in(methods_of(t), name)
+    place_in(methods_of(built_in), name)
 }
 
-fn name_of(t: BuiltIn) -> &'static str
-    ensures { result.now ≡ type_name t }
+fn name_of(built_in: BuiltIn) -> &'static str
+    ensures { result.now ≡ type_name built_in }
 {
-    match t {
+    match built_in {
         BuiltIn::QtObject => "QtObject",
         BuiltIn::Item => "Item",
         BuiltIn::Rectangle => "Rectangle",
@@ -67,11 +67,11 @@ fn name_of(t: BuiltIn) -> &'static str
 }
 
 // The signals of a type, in order.
-fn signals_of(t: BuiltIn) -> &'static [&'static str]
-    ensures names { map (λ n. n.now) result.now ≡ signals t }
+fn signals_of(built_in: BuiltIn) -> &'static [&'static str]
+    ensures names { map (λ n. n.now) result.now ≡ signals built_in }
     ensures few { length result.now ≤ 3 }
 {
-    match t {
+    match built_in {
         BuiltIn::MouseArea => &MOUSE_AREA_SIGNALS,
         BuiltIn::Timer => &TIMER_SIGNALS,
         BuiltIn::Loader => &LOADER_SIGNALS,
@@ -80,11 +80,11 @@ fn signals_of(t: BuiltIn) -> &'static [&'static str]
 }
 
 // The methods of a type, in order.
-fn methods_of(t: BuiltIn) -> &'static [&'static str]
-    ensures names { map (λ n. n.now) result.now ≡ methods t }
+fn methods_of(built_in: BuiltIn) -> &'static [&'static str]
+    ensures names { map (λ n. n.now) result.now ≡ methods built_in }
     ensures few { length result.now ≤ 3 }
 {
-    match t {
+    match built_in {
         BuiltIn::Timer => &TIMER_METHODS,
         _ => &NONE,
     }

@@ -67,10 +67,10 @@ pub struct SlotInfo {
 
 /// The slot of that path, which is a name, as `width`, or a group with a name in it, as
 /// `anchors.leftMargin`. `None` where the type has no such slot.
-pub fn find(t: BuiltIn, path: &str) -> Option<Slot>
-    ensures { result ≡ find_slot t path.now }
+pub fn find(built_in: BuiltIn, path: &str) -> Option<Slot>
+    ensures { result ≡ find_slot built_in path.now }
 {
-    match place_of(table_of(t), path) {
+    match place_of(table_of(built_in), path) {
         Some(index) => Some(Slot {
             index: index as u32,
         }),
@@ -79,16 +79,16 @@ pub fn find(t: BuiltIn, path: &str) -> Option<Slot>
 }
 
 /// How many slots the type has.
-pub fn slot_count(t: BuiltIn) -> u32
-    ensures { result ≡ length (slots t) }
+pub fn slot_count(built_in: BuiltIn) -> u32
+    ensures { result ≡ length (slots built_in) }
 {
-    table_of(t).len() as u32
+    table_of(built_in).len() as u32
 }
 
 /// The slot with that number of slots before it.
-pub fn slot_at(t: BuiltIn, i: u32) -> SlotInfo
-    requires { i < length (slots t) }
-    ensures { IsSomeAnd (slice_get (slots t) i) (λ slot. result ≡ slot.info) }
+pub fn slot_at(built_in: BuiltIn, index: u32) -> SlotInfo
+    requires { index < length (slots built_in) }
+    ensures { IsSomeAnd (slice_get (slots built_in) index) (λ slot. result ≡ slot.info) }
 {
-    table_of(t)[i as usize].info
+    table_of(built_in)[index as usize].info
 }

@@ -157,11 +157,11 @@ static LOADER: [TableRow; 43] = item_table!(
 
 // The slots of a type, in order.
 #[tactic(auto, unfolding(crate::specs::Slots::slots))]
-pub(crate) fn table_of(t: BuiltIn) -> &'static [TableRow]
-    ensures slots { map slot_of result.now ≡ slots t }
+pub(crate) fn table_of(built_in: BuiltIn) -> &'static [TableRow]
+    ensures slots { map slot_of result.now ≡ slots built_in }
     ensures few { length result.now ≤ 100 }
 {
-    match t {
+    match built_in {
         BuiltIn::QtObject => &OBJECT,
         BuiltIn::Item => &ITEM,
         BuiltIn::Rectangle => &RECTANGLE,
