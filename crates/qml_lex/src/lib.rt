@@ -1,0 +1,19 @@
+//! The lexer of QML: from the bytes of a document to its tokens, and from a token's text to its value.
+//! Places are lines and columns from 1 on, columns counted in bytes; LF alone ends a line.
+#![tactic(auto)]
+
+pub mod bytes;
+pub mod comment;
+pub mod lexer;
+pub mod mark;
+pub mod number;
+pub mod piece;
+pub mod place;
+pub mod text;
+pub mod token;
+
+pub use lexer::lex;
+pub use token::{Token, TokenKind, Tokens};
+
+#[cfg(test)]
+mod tests;
