@@ -1,7 +1,7 @@
 -- What stands between quotes, part by part.
 use Rattle.std.proofs.Common.{◌≡◌, ◌≢◌, ℕ, zero, suc, ◌+◌, ◌-◌, ◌<◌, ◌≤◌, Bool, true, false, cond, eqb, eq-eqb, List, [], ◌∷◌, ◌++◌, length, take, drop, drop-cons, add-one, get_or, Option, None, Some, sym, refl, ap, subst, ◌∙◌, arith, rules}
 use Rattle.std.proofs.lemmas.Bool.{ne_eqb}
-use Rattle.std.proofs.lemmas.List.{drop-drop, drop_all, length-drop}
+use Rattle.std.proofs.lemmas.List.{drop-drop, drop_all, take_all, length-drop, length-append}
 use Rattle.std.proofs.lemmas.Grind.{common_steps}
 use Rattle.qml_lex.specs.Bytes.{shifted}
 use Rattle.qml_lex.specs.Texts.{body_len, body_len_after, value_of, value_after, part_of, part_value, spelled_len}
@@ -97,5 +97,27 @@ pub value_of-skip : (xs : List ℕ) (i : ℕ) → i < length xs → part_of (dro
 value_of-skip xs i h is =
     let e : drop i xs ≡ get_or xs i 0 ∷ drop (suc i) xs = drop-cons xs i 0 h in
     rw (e, add-one) (value_of-none (get_or xs i 0) (drop (suc i) xs) (rw e at is))
+
+-- the slice from an offset on
+pub take-rest : (xs : List ℕ) (i : ℕ) → take (length xs - i) (drop i xs) ≡ drop i xs
+take-rest xs i = take_all (length xs - i) (drop i xs) (omega (arith, length-drop i xs))
+
+-- how a search for the closing quote goes on
+pub body_len_stops : (quote : ℕ) (xs : List ℕ) (i : ℕ) → i < length xs → get_or xs i 0 ≢ quote → None ≡ part_of (take (length xs - i) (drop i xs)) → shifted i (body_len quote (drop i xs)) ≡ body_len quote xs → None ≡ body_len quote xs
+body_len_stops quote xs i h other is found = rw (body_len-none quote xs i h other (sym (rw (take-rest xs i) at is))) at found
+
+pub body_len_goes_on : (quote : ℕ) (xs : List ℕ) (i n : ℕ) (part : Part) → i < length xs → get_or xs i 0 ≢ quote → Some part ≡ part_of (take (length xs - i) (drop i xs)) → n ≡ spelled_len part → i + n ≤ length xs → shifted i (body_len quote (drop i xs)) ≡ body_len quote xs → shifted (i + n) (body_len quote (drop (i + n) xs)) ≡ body_len quote xs
+body_len_goes_on quote xs i n part h other is is_n within found =
+    sym (shifted-shifted i n (body_len quote (drop (i + n) xs))) ∙ rw (body_len-next quote xs i n part h other (sym (rw (take-rest xs i) at is)) is_n within) at found
+
+-- how the length of a value goes on
+pub value_len_goes_on : (xs : List ℕ) (i n len more : ℕ) (part : Part) → i < length xs → Some part ≡ part_of (take (length xs - i) (drop i xs)) → n ≡ spelled_len part → more ≡ length (part_value part) → len + length (value_of (drop i xs)) ≡ length (value_of xs) → len + more + length (value_of (drop (i + n) xs)) ≡ length (value_of xs)
+value_len_goes_on xs i n len more part h is is_n is_more so_far =
+    let next : length (value_of (drop i xs)) ≡ length (part_value part) + length (value_of (drop (i + n) xs)) =
+        ap length (value_of-next xs i n part h (sym (rw (take-rest xs i) at is)) is_n) ∙ length-append (part_value part) (value_of (drop (i + n) xs)) in
+    omega arith
+
+pub value_len_skips : (xs : List ℕ) (i len : ℕ) → i < length xs → None ≡ part_of (take (length xs - i) (drop i xs)) → len + length (value_of (drop i xs)) ≡ length (value_of xs) → len + length (value_of (drop (i + 1) xs)) ≡ length (value_of xs)
+value_len_skips xs i len h is so_far = rw (value_of-skip xs i h (sym (rw (take-rest xs i) at is))) at so_far
 
 pub ruleset inside = (body_len-end, body_len-quote, body_len-none, body_len-next, value_of-end, value_of-next, value_of-skip, shifted-shifted, shifted-zero)

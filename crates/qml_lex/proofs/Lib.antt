@@ -1,3 +1,4 @@
 pub mod Inside
 pub mod Placing
 pub mod Capping
+pub mod Steps

@@ -102,7 +102,10 @@ pub fn body_len(quote: u8, text: &[u8]) -> Option<usize>
         if text[at] == quote {
             return Some(at);
         }
-        at += first_part(&text[at..])?.spelled_len();
+        let Some(part) = first_part(&text[at..]) else {
+            return None;
+        };
+        at += part.spelled_len();
     }
     None
 }
