@@ -1,5 +1,7 @@
 pub mod Bytes
+pub mod Laws
 pub mod Marks
+pub mod Meaning
 pub mod Numbers
 pub mod Pieces
 pub mod Places

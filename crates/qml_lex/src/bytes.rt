@@ -43,6 +43,18 @@ pub fn word_len(text: &[u8]) -> usize
     at
 }
 
+/// How many bytes from the front on are decimal digits.
+pub fn digit_len(text: &[u8]) -> usize
+    ensures value { result ≡ prefix_len is_ascii_digit text.now }
+    ensures within { result ≤ length text.now }
+{
+    let mut at = 0;
+    while at < text.len() && text[at].is_ascii_digit() {
+        at += 1;
+    }
+    at
+}
+
 /// How many bytes from the front on are blanks.
 pub fn blank_len(text: &[u8]) -> usize
     ensures value { result ≡ prefix_len is_blank text.now }

@@ -4,8 +4,10 @@
 
 pub mod bytes;
 pub mod comment;
+pub mod laws;
 pub mod lexer;
 pub mod mark;
+pub mod meaning;
 pub mod number;
 pub mod piece;
 pub mod place;
@@ -13,6 +15,7 @@ pub mod text;
 pub mod token;
 
 pub use lexer::lex;
+pub use meaning::{DecimalValue, decimal_value, integer_value, name_value, text_value};
 pub use token::{Token, TokenKind, Tokens};
 
 #[cfg(test)]

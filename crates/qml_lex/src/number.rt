@@ -33,12 +33,12 @@ fn all_digits(base: u64, digits: &[u8]) -> bool
     digits.iter().all(|byte| digit_value(*byte) < base)
 }
 
-// The value of digits, or a number that is too large where the value is.
+/// The value of digits, or a number that is too large where the value is.
 #[tactic(auto, using(crate::proofs::Capping::capping))]
-fn capped_value(base: u64, digits: &[u8]) -> u64
+pub fn capped_value(base: u64, digits: &[u8]) -> u64
     requires low { 1 ≤ base }
     requires high { base ≤ 36 }
-    ensures { result ≡ min (digits_value base digits.now) TOO_LARGE }
+    ensures { result ≡ min (digits_value base digits.now) 2147483648 }
 {
     let mut value = 0;
     for byte in digits {

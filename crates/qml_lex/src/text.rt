@@ -1,7 +1,8 @@
-ghost use Rattle.std.specs.Prelude.{◌≡◌, ◌+◌, ◌<◌, ◌≤◌, length, IsSome, IfSome};
+ghost use Rattle.std.specs.Prelude.{◌≡◌, ◌+◌, ◌<◌, ◌≤◌, ◌++◌, length, IsSome, IfSome, IfOk, OnOk, OnErr};
 ghost use Rattle.qml_lex.specs.Texts.{short_escape, code_of, escape_of, part_of, spelled_len, part_value, body_len, value_of};
 
 use crate::number::number;
+use std::alloc::{AllocError, Global};
 
 /// What stands inside a text.
 #[derive(Clone, Copy, Debug, PartialEq, Eq)]
@@ -36,6 +37,21 @@ impl Part {
             Part::Raw(_) | Part::Short(_) => 1,
             Part::Code(character) => character.len_utf8(),
         }
+    }
+
+    /// Appends its value. After an error the bytes are as before.
+    fn append_to(self, bytes: &mut Vec<u8>) -> Result<(), AllocError>
+        ensures ok { OnOk result (bytes.new.items ≡ bytes.old.items ++ part_value self) }
+        ensures err { OnErr result (bytes.new.items ≡ bytes.old.items) }
+    {
+        match self {
+            Part::Raw(byte) | Part::Short(byte) => bytes.push(byte)?,
+            Part::Code(character) => {
+                let mut buffer = [0; 4];
+                bytes.extend_from_slice(character.encode_utf8(&mut buffer).as_bytes())?;
+            }
+        }
+        Ok(())
     }
 }
 
@@ -127,4 +143,22 @@ pub fn value_len(body: &[u8]) -> usize
         }
     }
     len
+}
+
+/// The value of what stands between the quotes of a text.
+pub fn value_bytes(alloc: Global, body: &[u8]) -> Result<Vec<u8>, AllocError>
+    ensures { IfOk result (λ value. value.items ≡ value_of body.now) }
+{
+    let mut value = Vec::new(alloc);
+    let mut at = 0;
+    while at < body.len() {
+        match first_part(&body[at..]) {
+            Some(part) => {
+                part.append_to(&mut value)?;
+                at += part.spelled_len();
+            }
+            None => at += 1,
+        }
+    }
+    Ok(value)
 }
