@@ -1,7 +1,7 @@
 -- What stands between quotes, part by part.
 use Rattle.std.proofs.Common.{◌≡◌, ◌≢◌, ℕ, zero, suc, ◌+◌, ◌-◌, ◌<◌, ◌≤◌, Bool, true, false, cond, eqb, eq-eqb, List, [], ◌∷◌, ◌++◌, length, take, drop, drop-cons, add-one, get_or, Option, None, Some, sym, refl, ap, subst, ◌∙◌, arith, rules}
 use Rattle.std.proofs.lemmas.Bool.{ne_eqb}
-use Rattle.std.proofs.lemmas.List.{drop-drop, drop_all, take_all, length-drop, length-append}
+use Rattle.std.proofs.lemmas.List.{drop-drop, drop_all, take_all, append_assoc, append-nil, length-drop, length-append}
 use Rattle.std.proofs.lemmas.Grind.{common_steps}
 use Rattle.qml_lex.specs.Bytes.{shifted}
 use Rattle.qml_lex.specs.Texts.{body_len, body_len_after, value_of, value_after, part_of, part_value, spelled_len}
@@ -119,5 +119,16 @@ value_len_goes_on xs i n len more part h is is_n is_more so_far =
 
 pub value_len_skips : (xs : List ℕ) (i len : ℕ) → i < length xs → None ≡ part_of (take (length xs - i) (drop i xs)) → len + length (value_of (drop i xs)) ≡ length (value_of xs) → len + length (value_of (drop (i + 1) xs)) ≡ length (value_of xs)
 value_len_skips xs i len h is so_far = rw (value_of-skip xs i h (sym (rw (take-rest xs i) at is))) at so_far
+
+-- how a value goes on
+pub value_goes_on : (xs : List ℕ) (i n : ℕ) (so_far more : List ℕ) (part : Part) → i < length xs → Some part ≡ part_of (take (length xs - i) (drop i xs)) → n ≡ spelled_len part → more ≡ so_far ++ part_value part → so_far ++ value_of (drop i xs) ≡ value_of xs → more ++ value_of (drop (i + n) xs) ≡ value_of xs
+value_goes_on xs i n so_far more part h is is_n is_more found =
+    rw (is_more, append_assoc so_far (part_value part) (value_of (drop (i + n) xs)), ← value_of-next xs i n part h (sym (rw (take-rest xs i) at is)) is_n) found
+
+pub value_skips : (xs : List ℕ) (i : ℕ) (so_far : List ℕ) → i < length xs → None ≡ part_of (take (length xs - i) (drop i xs)) → so_far ++ value_of (drop i xs) ≡ value_of xs → so_far ++ value_of (drop (i + 1) xs) ≡ value_of xs
+value_skips xs i so_far h is found = rw (value_of-skip xs i h (sym (rw (take-rest xs i) at is))) at found
+
+pub value_is_whole : (xs : List ℕ) (i : ℕ) (so_far : List ℕ) → length xs ≤ i → so_far ++ value_of (drop i xs) ≡ value_of xs → so_far ≡ value_of xs
+value_is_whole xs i so_far h found = sym (append-nil so_far) ∙ rw (value_of-end xs i h) at found
 
 pub ruleset inside = (body_len-end, body_len-quote, body_len-none, body_len-next, value_of-end, value_of-next, value_of-skip, shifted-shifted, shifted-zero)

@@ -5,3 +5,5 @@ pub mod Steps
 pub mod OneReading
 pub mod LongestMark
 pub mod Order
+pub mod Words
+pub mod Utf8

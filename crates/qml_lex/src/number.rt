@@ -1,4 +1,4 @@
-ghost use Rattle.std.specs.Prelude.{◌≡◌, ◌≤◌, min};
+ghost use Rattle.std.specs.Prelude.{◌≡◌, ◌≤◌, min, IfSome};
 ghost use Rattle.std.specs.List.{list_all};
 ghost use Rattle.std.specs.Char.{digit_value};
 ghost use Rattle.std.specs.Str.Parse.{digits_value};
@@ -52,7 +52,8 @@ pub fn capped_value(base: u64, digits: &[u8]) -> u64
 pub fn number(base: u64, digits: &[u8]) -> Option<u32>
     requires low { 1 ≤ base }
     requires high { base ≤ 36 }
-    ensures { result ≡ number_of base digits.now }
+    ensures value { result ≡ number_of base digits.now }
+    ensures bound { IfSome result (λ n. n ≤ 2147483647) }
 {
     if !are_digits(base, digits) {
         return None;
@@ -68,7 +69,8 @@ pub fn number(base: u64, digits: &[u8]) -> Option<u32>
 /// The value of an integer's word, where it is one.
 #[tactic(auto, unfolding(crate::specs::Numbers::integer_of))]
 pub fn integer(word: &[u8]) -> Option<u32>
-    ensures { result ≡ integer_of word.now }
+    ensures value { result ≡ integer_of word.now }
+    ensures bound { IfSome result (λ n. n ≤ 2147483647) }
 {
     match word {
         [b'0', b'x', digits @ ..] => number(16, digits),
