@@ -7,3 +7,4 @@ pub mod LongestMark
 pub mod Order
 pub mod Words
 pub mod Utf8
+pub mod Spelling

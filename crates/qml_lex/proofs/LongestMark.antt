@@ -23,7 +23,7 @@ found_at : (p : List ℕ → Bool) (mark found : List ℕ) (more : List (List �
 found_at p mark found more true passes h later = let same : mark ≡ found = cc in rw (← same) passes
 found_at p mark found more false passes h later = later h
 
-found_passes : (p : List ℕ → Bool) (table : List (List ℕ)) (found : List ℕ) → find p table ≡ Some found → p found ≡ true
+pub found_passes : (p : List ℕ → Bool) (table : List (List ℕ)) (found : List ℕ) → find p table ≡ Some found → p found ≡ true
 found_passes p [] found h = cc
 found_passes p (mark ∷ more) found h = found_at p mark found more (p mark) refl h (found_passes p more found)
 

@@ -1,12 +1,12 @@
 -- The text of a token and what it means.
-use Rattle.std.specs.Prelude.{◌≡◌, ℕ, ◌+◌, ◌-◌, ◌<◌, ◌≤◌, IsTrue, List, length, take, drop, min, slice_index, Option, Some, IsSome, IsUtf8, bytes_eq}
+use Rattle.std.specs.Prelude.{◌≡◌, ℕ, ◌+◌, ◌-◌, ◌<◌, ◌≤◌, IsTrue, List, length, take, drop, min, slice_index, IsSome, IsUtf8, bytes_eq}
 use Rattle.std.specs.List.{list_all, list_any, prefix_len}
 use Rattle.std.specs.Char.{is_ascii_digit}
 use Rattle.std.specs.Str.Parse.{digits_value}
 use Rattle.qml_lex.specs.Bytes.{is_letter, is_word, is_quote}
 use Rattle.qml_lex.specs.Marks.{marks}
 use Rattle.qml_lex.specs.Numbers.{integer_of}
-use Rattle.qml_lex.specs.Texts.{body_len, value_of}
+use Rattle.qml_lex.specs.Texts.{value_of}
 use Rattle.qml_lex.specs.declared.token.TokenKind.{TokenKind}
 use Rattle.qml_lex.specs.declared.token.TokenKind.TheVariants.{Name, Integer, Decimal, Text, Mark}
 
@@ -44,7 +44,7 @@ body_of text = take (length text - 2) (drop 1 text)
 pub record IsQuoted (text : List ℕ) : Type 0 where
   pub quotes : 2 ≤ length text
   pub quote : IsTrue (is_quote (slice_index text 0))
-  pub closed : body_len (slice_index text 0) (drop 1 text) ≡ Some (length text - 2)
+  pub closed : slice_index text (length text - 1) ≡ slice_index text 0
   pub short : length (value_of (body_of text)) ≤ 65536
   pub utf8 : IsUtf8 (value_of (body_of text))
 

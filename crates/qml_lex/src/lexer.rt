@@ -1,4 +1,5 @@
-ghost use Rattle.std.specs.Prelude.{◌≡◌, ◌^◌, ◌≤◌, length, MatchResult};
+ghost use Rattle.std.specs.Prelude.{◌≡◌, ◌^◌, ◌≤◌, length, slice_range, All, IfOk, MatchResult};
+ghost use Rattle.qml_lex.specs.Meaning.{IsSpelled};
 ghost use Rattle.qml_lex.specs.Reading.{IsReadAs, IsRefused, first_offset, HasTokens, IsStopped};
 
 use crate::piece::{Piece, first_piece};
@@ -17,7 +18,9 @@ use std::str;
 /// NoMemory where memory for the tokens ran out.
 pub fn lex(alloc: Global, bytes: &[u8]) -> Result<Tokens, DocFault>
     requires { length bytes.now ≤ 2 ^ 31 }
-    ensures { MatchResult result (IsReadAs bytes.now) (IsRefused bytes.now) }
+    ensures read { MatchResult result (IsReadAs bytes.now) (IsRefused bytes.now) }
+    ensures spelled { IfOk result (All (λ token.
+      IsSpelled token.kind (slice_range bytes.now token.start token.end))) }
 {
     match str::from_utf8(bytes) {
         Ok(_) => tokens_from(alloc, bytes, byte_order_mark_len(bytes)),
