@@ -23,9 +23,9 @@ body_len_after-drop quote (suc k) [] h = absurd (omega arith)
 body_len_after-drop quote (suc k) (x ∷ xs) h =
     ap (shifted 1) (body_len_after-drop quote k xs (omega arith)) ∙ shifted_suc k (body_len_after quote 0 (drop k xs))
   where
-  shifted_suc : (n : ℕ) (o : Option ℕ) → shifted 1 (shifted n o) ≡ shifted (suc n) o
-  shifted_suc n None = refl
-  shifted_suc n (Some m) = ap Some (omega arith)
+    shifted_suc : (n : ℕ) (o : Option ℕ) → shifted 1 (shifted n o) ≡ shifted (suc n) o
+    shifted_suc n None = refl
+    shifted_suc n (Some m) = ap Some (omega arith)
 
 -- the same for a value
 pub value_after-drop : (k : ℕ) (xs : List ℕ) → value_after k xs ≡ value_after 0 (drop k xs)
@@ -114,7 +114,7 @@ body_len_goes_on quote xs i n part h other is is_n within found =
 pub value_len_goes_on : (xs : List ℕ) (i n len more : ℕ) (part : Part) → i < length xs → Some part ≡ part_of (take (length xs - i) (drop i xs)) → n ≡ spelled_len part → more ≡ length (part_value part) → len + length (value_of (drop i xs)) ≡ length (value_of xs) → len + more + length (value_of (drop (i + n) xs)) ≡ length (value_of xs)
 value_len_goes_on xs i n len more part h is is_n is_more so_far =
     let next : length (value_of (drop i xs)) ≡ length (part_value part) + length (value_of (drop (i + n) xs)) =
-        ap length (value_of-next xs i n part h (sym (rw (take-rest xs i) at is)) is_n) ∙ length-append (part_value part) (value_of (drop (i + n) xs)) in
+    ap length (value_of-next xs i n part h (sym (rw (take-rest xs i) at is)) is_n) ∙ length-append (part_value part) (value_of (drop (i + n) xs)) in
     omega arith
 
 pub value_len_skips : (xs : List ℕ) (i len : ℕ) → i < length xs → None ≡ part_of (take (length xs - i) (drop i xs)) → len + length (value_of (drop i xs)) ≡ length (value_of xs) → len + length (value_of (drop (i + 1) xs)) ≡ length (value_of xs)

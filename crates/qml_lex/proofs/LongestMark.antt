@@ -30,9 +30,10 @@ found_passes p (mark ∷ more) found h = found_at p mark found more (p mark) ref
 -- those after a mark are no longer than it
 no_longer : (p : List ℕ → Bool) (n : ℕ) (table : List (List ℕ)) → list_all (λ other. nat_le (length other) n) table ≡ true → AllByRecursion (λ other. IsTrue (p other) → length other ≤ n) table
 no_longer p n [] h = tt
-no_longer p n (mark ∷ more) h =
-    (λ _. leb-true (length mark) n (and_left (nat_le (length mark) n) (list_all (λ other. nat_le (length other) n) more) h),
-    no_longer p n more (and_right (nat_le (length mark) n) (list_all (λ other. nat_le (length other) n) more) h))
+no_longer p n (mark ∷ more) h = (
+  λ _. leb-true (length mark) n (and_left (nat_le (length mark) n) (list_all (λ other. nat_le (length other) n) more) h),
+  no_longer p n more (and_right (nat_le (length mark) n) (list_all (λ other. nat_le (length other) n) more) h),
+)
 
 -- no longer one passes than what is found
 longest_at : (p : List ℕ → Bool) (mark found : List ℕ) (more : List (List ℕ)) (b : Bool) → p mark ≡ b → cond b (Some mark) (find p more) ≡ Some found → list_all (λ other. nat_le (length other) (length mark)) more ≡ true → (find p more ≡ Some found → AllByRecursion (λ other. IsTrue (p other) → length other ≤ length found) more) → (IsTrue (p mark) → length mark ≤ length found) × AllByRecursion (λ other. IsTrue (p other) → length other ≤ length found) more

@@ -30,9 +30,9 @@ tokens_stand_in_order bytes tokens h = behind_earlier bytes 0 (first_offset byte
 -- the place of the next byte comes behind
 next_place : (bytes : List ℕ) (i : ℕ) → i < length bytes → IsBefore (place_of bytes i) (place_of bytes (i + 1))
 next_place bytes i h = elim (eqb_tells (get_or bytes i 0) 10) [
-    inl ends ↦ inl (omega (arith, line_after_line_end bytes i h ends.1))
+  | inl ends ↦ inl (omega (arith, line_after_line_end bytes i h ends.1))
   | inr other ↦ inr (sym (line_after_other bytes i h other.1), omega (arith, column_after_other bytes i h other.1))
-  ]
+]
 
 before_trans : (a b c : Span) → IsBefore a b → IsBefore b c → IsBefore a c
 before_trans a b c (inl h) (inl g) = inl (omega arith)
@@ -59,9 +59,10 @@ all_behind : (bytes : List ℕ) (i offset : ℕ) (place : Span) (tokens : List T
 all_behind bytes i offset place [] is h stand = tt
 all_behind bytes i offset place (token ∷ tokens) is h stand =
     let P : Span → Type 0 = λ later. IsBefore place later in
-    let Q : Span → Type 0 = λ earlier. IsBefore earlier (place_of bytes token.start) in
-    (subst P (sym stand.0.placed) (subst Q (sym is) (place_before bytes i token.start (omega (arith, stand.0.behind)) (omega (arith, stand.0.some, stand.0.within)))),
-    all_behind bytes i token.end place tokens is (omega (arith, stand.0.behind, stand.0.some)) stand.1)
+    let Q : Span → Type 0 = λ earlier. IsBefore earlier (place_of bytes token.start) in (
+      subst P (sym stand.0.placed) (subst Q (sym is) (place_before bytes i token.start (omega (arith, stand.0.behind)) (omega (arith, stand.0.some, stand.0.within)))),
+      all_behind bytes i token.end place tokens is (omega (arith, stand.0.behind, stand.0.some)) stand.1,
+    )
 
 rise : (bytes : List ℕ) (offset : ℕ) (tokens : List Token) → StandInOrder bytes offset tokens → PlacesRise tokens
 rise bytes offset [] stand = tt

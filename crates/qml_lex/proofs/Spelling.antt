@@ -87,9 +87,9 @@ decimal_text text n f some more within digits point digits' =
     let len_digits : length (take n text) ≡ n = omega (arith, length-take n text) in
     let at_point : get_or (take (n + 1 + f) text) n 0 ≡ 46 = get_or-take (n + 1 + f) text n 0 (omega arith) ∙ point in
     let each : (k : ℕ) → k < n → is_ascii_digit (get_or (take (n + 1 + f) text) k 0) ≡ true =
-        λ k h. ap is_ascii_digit (get_or-take (n + 1 + f) text k 0 (omega arith) ∙ sym (get_or-take n text k 0 h)) ∙ all_at is_ascii_digit (take n text) k digits (omega arith) in
+    λ k h. ap is_ascii_digit (get_or-take (n + 1 + f) text k 0 (omega arith) ∙ sym (get_or-take n text k 0 h)) ∙ all_at is_ascii_digit (take n text) k digits (omega arith) in
     let whole : whole_len (take (n + 1 + f) text) ≡ n =
-        prefix_len_is is_ascii_digit (take (n + 1 + f) text) n 0 (omega arith) each (λ _. ap is_ascii_digit at_point) in
+    prefix_len_is is_ascii_digit (take (n + 1 + f) text) n 0 (omega arith) each (λ _. ap is_ascii_digit at_point) in
     let P : ℕ → Type 0 = λ m. (0 < m) × ((get_or (take (n + 1 + f) text) m 0 ≡ 46) × ((list_all is_ascii_digit (drop (m + 1) (take (n + 1 + f) text)) ≡ true) × (m + 1 < length (take (n + 1 + f) text)))) in
     let facts = subst P (sym whole) (some, (at_point, (ap (list_all is_ascii_digit) (drop-take (n + 1) f text) ∙ digits', omega arith))) in
     record { whole = facts.0; point = facts.1.0; fraction = facts.1.1.0; some = facts.1.1.1 }
@@ -97,9 +97,9 @@ decimal_text text n f some more within digits point digits' =
 -- a digit that is read stands in the text
 digit_is_there : (text : List ℕ) (i : ℕ) → is_ascii_digit (get_or text i 0) ≡ true → i < length text
 digit_is_there text i h = elim (cases_lt i (length text)) [
-    inl there ↦ there
+  | inl there ↦ there
   | inr past ↦ let no : false ≡ true = ap is_ascii_digit (sym (get_or_past text i 0 past)) ∙ h in let never : ⊥ = cc in absurd never
-  ]
+]
 
 decimal_spelled : (text : List ℕ) (n : ℕ) (kind : TokenKind) (m : ℕ) → 0 < n → n ≤ length text → list_all is_ascii_digit (take n text) ≡ true → is_fraction (drop n text) ≡ true → decimal_piece n (drop n text) ≡ Lexeme kind m → IsSpelled kind (take m text)
 unfolding decimal_piece

@@ -40,10 +40,10 @@ unfolding encode
 encode_high c h =
     let past_one : ltb c 128 ≡ false = le-ltb c 128 h in
     elim (cases_lt c 2048) [
-      inl two ↦ rw (past_one, lt-ltb c 2048 two) (omega arith, (omega arith, tt))
-    | inr past_two ↦ elim (cases_lt c 65536) [
-        inl three ↦ rw (past_one, le-ltb c 2048 past_two, lt-ltb c 65536 three) (omega arith, (omega arith, (omega arith, tt)))
-      | inr four ↦ rw (past_one, le-ltb c 2048 past_two, le-ltb c 65536 four) (omega arith, (omega arith, (omega arith, (omega arith, tt))))
+      | inl two ↦ rw (past_one, lt-ltb c 2048 two) (omega arith, (omega arith, tt))
+      | inr past_two ↦ elim (cases_lt c 65536) [
+        | inl three ↦ rw (past_one, le-ltb c 2048 past_two, lt-ltb c 65536 three) (omega arith, (omega arith, (omega arith, tt)))
+        | inr four ↦ rw (past_one, le-ltb c 2048 past_two, le-ltb c 65536 four) (omega arith, (omega arith, (omega arith, (omega arith, tt))))
       ]
     ]
 
@@ -51,8 +51,8 @@ encode_high c h =
 one_ascii : (v : ℕ) → v < 128 → IsUtf8 (v ∷ [])
 one_ascii v h = let P : List ℕ → Type 0 = λ bs. IsUtf8 bs in subst P (encode_ascii v h) (IsUtf8-encode v (lt-scalar v h))
   where
-  lt-scalar : (n : ℕ) → n < 128 → IsScalar n
-  lt-scalar n g = rw (lt-ltb n 55296 (omega arith)) refl
+    lt-scalar : (n : ℕ) → n < 128 → IsScalar n
+    lt-scalar n g = rw (lt-ltb n 55296 (omega arith)) refl
 
 -- what a part that begins with an ASCII byte has: it ends with one, within the text, and its value is UTF-8
 abbrev PartFits : ℕ → List ℕ → Option Part → Type 0
@@ -130,10 +130,10 @@ escape_fits byte (e ∷ rest) =
 part_fits : (byte : ℕ) (rest : List ℕ) → byte < 128 → PartFits byte rest (part_of (byte ∷ rest))
 unfolding part_of
 part_fits byte rest h =
-    elim (eqb byte 10) as (λ t. PartFits byte rest (cond t None (cond (eqb byte 92) (escape_of rest) (Some (Raw byte)))))
-    [ true ↦ tt
-    | false ↦ elim (eqb byte 92) as (λ t. PartFits byte rest (cond t (escape_of rest) (Some (Raw byte))))
-      [ true ↦ escape_fits byte rest | false ↦ (h, (omega arith, one_ascii byte h)) ]
+    elim (eqb byte 10) as (λ t. PartFits byte rest (cond t None (cond (eqb byte 92) (escape_of rest) (Some (Raw byte))))) [
+      | true ↦ tt
+      | false ↦ elim (eqb byte 92) as (λ t. PartFits byte rest (cond t (escape_of rest) (Some (Raw byte))))
+          [ true ↦ escape_fits byte rest | false ↦ (h, (omega arith, one_ascii byte h)) ]
     ]
 
 -- behind an ASCII byte a text goes on
@@ -153,10 +153,10 @@ low_step byte rest (Some part) low u is fits later =
     let e : spelled_len part ≡ n + 1 = spelled_some part in
     rw (value_of-part byte rest part is, e) (IsUtf8-append (part_value part) (value_of (drop (n + 1) (byte ∷ rest))) fits.1.1 (later n (utf8_behind (byte ∷ rest) n u (omega (arith, fits.1.0)) fits.0)))
   where
-  spelled_some : (p : Part) → spelled_len p ≡ spelled_len p - 1 + 1
-  spelled_some (Raw b) = refl
-  spelled_some (Short b) = refl
-  spelled_some (Code c) = refl
+    spelled_some : (p : Part) → spelled_len p ≡ spelled_len p - 1 + 1
+    spelled_some (Raw b) = refl
+    spelled_some (Short b) = refl
+    spelled_some (Code c) = refl
 
 -- where it goes on with another character
 high_step : (byte c : ℕ) (rest tail : List ℕ) → encode_utf8 c ++ tail ≡ byte ∷ rest → 128 ≤ c → IsScalar c → IsUtf8 (value_of tail) → IsUtf8 (value_of (byte ∷ rest))
@@ -166,9 +166,9 @@ high_step byte c rest tail e high is_scalar later =
 -- a character that begins with a byte that is no ASCII
 first_high : (c : ℕ) (tail : List ℕ) (b : ℕ) (more : List ℕ) → encode_utf8 c ++ tail ≡ b ∷ more → 128 ≤ b → 128 ≤ c
 first_high c tail b more e big = elim (cases_lt c 128) [
-    inl low ↦ let same : c ∷ tail ≡ b ∷ more = rw (encode_ascii c low) at e in let eq : c ≡ b = cc in absurd (omega arith)
+  | inl low ↦ let same : c ∷ tail ≡ b ∷ more = rw (encode_ascii c low) at e in let eq : c ≡ b = cc in absurd (omega arith)
   | inr high ↦ high
-  ]
+]
 
 high_first : (k b : ℕ) (more : List ℕ) → length (b ∷ more) ≤ suc k → 128 ≤ b → (cs : List ℕ) → scalars cs ≡ true → encode_utf8_all cs ≡ b ∷ more → ((tail : List ℕ) → length tail ≤ k → IsUtf8 tail → IsUtf8 (value_of tail)) → IsUtf8 (value_of (b ∷ more))
 high_first k b more g big [] s e later = cc
@@ -183,8 +183,9 @@ utf8_within : (fuel : ℕ) (body : List ℕ) → length body ≤ fuel → IsUtf8
 utf8_within fuel [] h u = rw value_of-nil IsUtf8-nil
 utf8_within zero (byte ∷ rest) h u = absurd (omega arith)
 utf8_within (suc fuel) (byte ∷ rest) h u = elim (cases_lt byte 128) [
-    inl low ↦ low_step byte rest (part_of (byte ∷ rest)) low u refl (part_fits byte rest low) (λ n v. utf8_within fuel (drop (n + 1) (byte ∷ rest)) (omega (arith, length-drop (n + 1) (byte ∷ rest))) v)
+  | inl low ↦ low_step byte rest (part_of (byte ∷ rest)) low u refl (part_fits byte rest low) (λ n v. utf8_within fuel (drop (n + 1) (byte ∷ rest)) (omega (arith, length-drop (n + 1) (byte ∷ rest))) v)
   | inr high ↦ high_first fuel byte rest h high u.0 u.1.0 u.1.1 (λ tail short v. utf8_within fuel tail short v)
-  ]
+]
+
 pub value_is_utf8 : (body : List ℕ) → IsUtf8 body → IsUtf8 (value_of body)
 value_is_utf8 body u = utf8_within (length body) body (omega arith) u

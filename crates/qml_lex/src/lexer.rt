@@ -20,7 +20,7 @@ pub fn lex(alloc: Global, bytes: &[u8]) -> Result<Tokens, DocFault>
     requires { length bytes.now ≤ 2 ^ 31 }
     ensures read { MatchResult result (IsReadAs bytes.now) (IsRefused bytes.now) }
     ensures spelled { IfOk result (All (λ token.
-      IsSpelled token.kind (slice_range bytes.now token.start token.end))) }
+        IsSpelled token.kind (slice_range bytes.now token.start token.end))) }
 {
     match str::from_utf8(bytes) {
         Ok(_) => tokens_from(alloc, bytes, byte_order_mark_len(bytes)),

@@ -19,7 +19,7 @@ impl Part {
     /// How many bytes it is spelled with.
     fn spelled_len(self) -> usize
         ensures value { result ≡ spelled_len self }
-    ensures some { 0 < result }
+        ensures some { 0 < result }
     {
         match self {
             Part::Raw(_) => 1,
@@ -31,7 +31,7 @@ impl Part {
     /// How many bytes its value has.
     fn value_len(self) -> usize
         ensures value { result ≡ length (part_value self) }
-    ensures shorter { result ≤ spelled_len self }
+        ensures shorter { result ≤ spelled_len self }
     {
         match self {
             Part::Raw(_) | Part::Short(_) => 1,

@@ -16,7 +16,7 @@ returns-in-Bad c = bad_here _ _ _ _ c.loop-tokens.invariant.bad c.in-Bad.ensures
 pub loop-tokens-preserved-in-Blank : goal.loop-tokens-preserved-in-Blank
 loop-tokens-preserved-in-Blank c =
     let within : c.loop-tokens.at + c.in-Blank.len ≤ length c.args.bytes.now =
-        within_rest c.args.bytes.now c.loop-tokens.at c.in-Blank.len c.loop-tokens.invariant.within c.in-Blank.ensures.within.1 in
+    within_rest c.args.bytes.now c.loop-tokens.at c.in-Blank.len c.loop-tokens.invariant.within c.in-Blank.ensures.within.1 in
     record {
       within = within;
       place = c.advance-span-in-Blank.ensures;
@@ -27,7 +27,7 @@ loop-tokens-preserved-in-Blank c =
 pub loop-tokens-preserved : goal.loop-tokens-preserved
 loop-tokens-preserved c =
     let within : c.loop-tokens.at + c.in-Lexeme.len ≤ length c.args.bytes.now =
-        within_rest c.args.bytes.now c.loop-tokens.at c.in-Lexeme.len c.loop-tokens.invariant.within c.in-Lexeme.ensures.within.1 in
+    within_rest c.args.bytes.now c.loop-tokens.at c.in-Lexeme.len c.loop-tokens.invariant.within c.in-Lexeme.ensures.within.1 in
     record {
       within = within;
       place = c.advance-span-in-Lexeme.ensures;

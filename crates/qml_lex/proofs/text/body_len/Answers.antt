@@ -6,7 +6,7 @@ use Rattle.qml_lex.proofs.text.body_len.Goals as goal
 pub loop-at-preserved : goal.loop-at-preserved
 loop-at-preserved c =
     let within : c.loop-at.at + c.spelled_len-at.result ≤ length c.args.text.now =
-        omega (arith, c.in-Some.ensures.within, length-take (length c.args.text.now - c.loop-at.at) (drop c.loop-at.at c.args.text.now), length-drop c.loop-at.at c.args.text.now) in
+    omega (arith, c.in-Some.ensures.within, length-take (length c.args.text.now - c.loop-at.at) (drop c.loop-at.at c.args.text.now), length-drop c.loop-at.at c.args.text.now) in
     (within, body_len_goes_on _ _ _ _ c.in-Some.part c.loop-at-test.true c.if-text-at.false c.in-Some.ensures.value c.spelled_len-at.ensures.value within c.loop-at.invariant.1)
 
 pub returns-in_default-clause-value : goal.returns-in_default-clause-value

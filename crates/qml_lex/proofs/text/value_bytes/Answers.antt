@@ -6,7 +6,7 @@ use Rattle.qml_lex.proofs.text.value_bytes.Goals as goal
 pub loop-at-preserved-in-Some : goal.loop-at-preserved-in-Some
 loop-at-preserved-in-Some c =
     let within : c.loop-at.at + c.spelled_len-at.result ≤ length c.args.body.now =
-        omega (arith, c.in-Some.ensures.within, length-take (length c.args.body.now - c.loop-at.at) (drop c.loop-at.at c.args.body.now), length-drop c.loop-at.at c.args.body.now) in
+    omega (arith, c.in-Some.ensures.within, length-take (length c.args.body.now - c.loop-at.at) (drop c.loop-at.at c.args.body.now), length-drop c.loop-at.at c.args.body.now) in
     (within, value_goes_on _ _ _ _ _ c.in-Some.part c.loop-at-test.true c.in-Some.ensures.value c.spelled_len-at.ensures.value c.in_ok-append_to-in-Some.ensures.ok c.loop-at.invariant.1)
 
 pub loop-at-preserved : goal.loop-at-preserved
