@@ -10,6 +10,7 @@ pub mod Inputs
 pub mod Lexemes
 pub mod Marks
 pub mod Names
+pub mod PrintCases
 pub mod Samples
 pub mod StatementGrammar
 pub mod Statements
