@@ -4,3 +4,4 @@ pub mod MemberForms
 pub mod Opened
 mod PrintCases
 pub mod PrintedForms
+mod TreeCases

@@ -14,4 +14,5 @@ pub mod PrintCases
 pub mod Samples
 pub mod StatementGrammar
 pub mod Statements
+pub mod TreeCases
 pub mod Words
