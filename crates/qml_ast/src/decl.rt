@@ -1,0 +1,105 @@
+use crate::expr::Expr;
+use crate::name::Name;
+use crate::span::Span;
+use crate::stmt::Stmt;
+use sqlite_items::{Boxed, Items};
+
+/// What a property is initialised with.
+#[cycle(decl)]
+#[derive(Debug, Drop)]
+pub enum Init {
+    Expr(Expr),
+    Object(Boxed<Decl>),
+}
+
+/// One name, or two with a dot between them.
+#[derive(Debug, Drop)]
+pub struct Path {
+    pub first: Name,
+    pub second: Option<Name>,
+}
+
+/// A parameter of a signal.
+#[derive(Debug, Drop)]
+pub struct SignalParam {
+    pub kind: Name,
+    pub name: Name,
+    /// Where the kind stands.
+    pub kind_span: Span,
+    /// Where the name stands.
+    pub name_span: Span,
+}
+
+/// A parameter of a method.
+#[derive(Debug, Drop)]
+pub struct MethodParam {
+    pub name: Name,
+    /// Where the name stands.
+    pub span: Span,
+}
+
+/// A member of an object's declaration.
+#[cycle(decl)]
+#[derive(Debug, Drop)]
+pub enum Member {
+    /// `id: name`
+    Id(Name, Span),
+    /// `property kind name: init`
+    Property {
+        /// Whether `readonly` stands before it.
+        fixed: bool,
+        kind: Name,
+        name: Name,
+        init: Option<Init>,
+        /// Where the kind stands.
+        kind_span: Span,
+        /// Where the value stands: a literal inside its parentheses, and else the value's first token.
+        /// Where there is no value it means nothing.
+        value_span: Span,
+        /// Where the name stands.
+        span: Span,
+    },
+    /// `signal name(kind name, kind name, ..)`
+    Signal {
+        name: Name,
+        params: Items<SignalParam>,
+        /// Where the name stands.
+        span: Span,
+    },
+    /// `path: init`
+    Init {
+        path: Path,
+        init: Init,
+        /// Where the value stands: a literal inside its parentheses, and else the value's first token.
+        value_span: Span,
+        /// Where the path stands.
+        span: Span,
+    },
+    /// `path: body`
+    Handler {
+        path: Path,
+        body: Stmt,
+        /// Where the path stands.
+        span: Span,
+    },
+    /// `function name(name, name, ..) { body }`
+    Method {
+        name: Name,
+        params: Items<MethodParam>,
+        body: Items<Stmt>,
+        /// Where the name stands.
+        span: Span,
+    },
+    Child(Decl),
+}
+
+/// The declaration of an object: `name { member member .. }`.
+#[cycle(decl)]
+#[derive(Debug, Drop)]
+pub struct Decl {
+    /// The type's name.
+    pub name: Name,
+    pub members: Items<Member>,
+    /// Where the type's name stands.
+    pub span: Span,
+}
