@@ -1,3 +1,5 @@
 pub mod Growing
+pub mod Reading
+pub mod Sound
 pub mod Strength
 pub mod Tools

@@ -76,7 +76,7 @@ pub record Taken (test : Option Token → Bool) (i j : Input) : Type 0 where
   pub way : Way i j 0 (token ∷ [])
   pub is : test (Some token) ≡ true
 
-if_ok : {A : Type 0} (b : Bool) (p q y : A) → (if b then p else q) ≡ y → ((b ≡ true) × (p ≡ y)) ⊎ ((b ≡ false) × (q ≡ y))
+pub if_ok : {A : Type 0} (b : Bool) (p q y : A) → (if b then p else q) ≡ y → ((b ≡ true) × (p ≡ y)) ⊎ ((b ≡ false) × (q ≡ y))
 if_ok true p q y h = inl (refl, h)
 if_ok false p q y h = inr (refl, h)
 
@@ -96,15 +96,24 @@ pub record Named (n : List ℕ) (i j : Input) : Type 0 where
   pub way : Way i j 0 (token ∷ [])
   pub is : name_of (Some token) ≡ Some n
 
-name_in : (ts : List Token) (n : List ℕ) → name_of (head ts) ≡ Some n → (t : Token) × (ts ≡ t ∷ tail ts) × (name_of (Some t) ≡ Some n)
-name_in [] n h = absurd cc
-name_in (t ∷ ts) n h = (t, refl, h)
+-- the next token has this
+pub record Gives {B : Type 0} (f : Option Token → Option B) (y : B) (i : Input) : Type 0 where
+  pub token : Token
+  pub rest : i.rest ≡ token ∷ tail i.rest
+  pub is : f (Some token) ≡ Some y
+
+gives_in : {B : Type 0} (f : Option Token → Option B) → f None ≡ None → (ts : List Token) (y : B) → f (head ts) ≡ Some y → (t : Token) × (ts ≡ t ∷ tail ts) × (f (Some t) ≡ Some y)
+gives_in f none [] y h = absurd cc
+gives_in f none (t ∷ ts) y h = (t, refl, h)
+
+pub ahead_gives : {B : Type 0} (f : Option Token → Option B) → f None ≡ None → (i : Input) (y : B) → f (ahead i) ≡ Some y → Gives f y i
+ahead_gives f none i y h = let a = gives_in f none i.rest y h in record { token = a.0; rest = a.1; is = a.2 }
 
 named_from : (o : Option (List ℕ)) (i j : Input) (n : List ℕ) → name_of (ahead i) ≡ o → ◌≡◌ {A = Result (List ℕ × Input) DocFault} (elim o [ Some m ↦ Ok (m, after i) | None ↦ Err (refusal i) ]) (Ok (n, j)) → Named n i j
 named_from None i j n e h = absurd cc
 named_from (Some m) i j n e h =
-    let t = name_in i.rest m e in
-    record { token = t.0; way = subst (λ k. Way i k 0 (t.0 ∷ [])) (same_input m n (after i) j h) (way_token t.0 t.1); is = t.2 ∙ ap Some (same_value m n (after i) j h) }
+    let t = ahead_gives name_of refl i m e in
+    record { token = t.token; way = subst (λ k. Way i k 0 (t.token ∷ [])) (same_input m n (after i) j h) (way_token t.token t.rest); is = t.is ∙ ap Some (same_value m n (after i) j h) }
 
 pub named : (i j : Input) (n : List ℕ) → any_name i ≡ Ok (n, j) → Named n i j
 named i j n h = named_from (name_of (ahead i)) i j n refl h
