@@ -1,1 +1,2 @@
 mod ExpressionProbes
+pub mod Opened

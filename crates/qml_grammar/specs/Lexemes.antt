@@ -7,14 +7,18 @@ use Rattle.qml_ast.specs.declared.expr.Expr.TheVariants.{Lit, Name}
 use Rattle.qml_ast.specs.declared.expr.UnOp.{UnOp}
 use Rattle.qml_ast.specs.declared.expr.UnOp.TheVariants.{Neg, Plus as Posit, Not}
 use Rattle.qml_ast.specs.declared.span.Span.{Span}
+use Rattle.qml_ast.specs.declared.stmt.AssignOp.{AssignOp}
+use Rattle.qml_ast.specs.declared.stmt.AssignOp.TheVariants.{Set, Add as AddTo, Sub as SubFrom, Mul as MulBy, Div as DivBy}
+use Rattle.qml_ast.specs.declared.stmt.LocalWord.{LocalWord}
+use Rattle.qml_ast.specs.declared.stmt.LocalWord.TheVariants.{Var as AsVar, Let as AsLet, Const as AsConst}
 use Rattle.qml_ast.specs.declared.value.Value.{Value}
 use Rattle.qml_ast.specs.declared.value.Value.TheVariants.{Int, Bool as Flag, Str, Obj, Line}
 use Rattle.qml_grammar.specs.Marks.{same_mark}
-use Rattle.qml_grammar.specs.Words.{word_text, same_word, is_ordinary, is_unsupported}
+use Rattle.qml_grammar.specs.Words.{word_text, word_of, same_word, is_ordinary, is_unsupported}
 use Rattle.qml_grammar.specs.declared.mark.Mark.{Mark}
-use Rattle.qml_grammar.specs.declared.mark.Mark.TheVariants.{OpenBrace, OpenBracket, Plus, Minus, Star, Slash, Percent, Bang, Less, Greater, LessEqual, GreaterEqual, EqualEqual, BangEqual, TripleEqual, BangDoubleEqual}
+use Rattle.qml_grammar.specs.declared.mark.Mark.TheVariants.{OpenBrace, OpenBracket, Plus, Minus, Star, Slash, Percent, Bang, Less, Greater, LessEqual, GreaterEqual, EqualEqual, BangEqual, TripleEqual, BangDoubleEqual, Equal, PlusEqual, MinusEqual, StarEqual, SlashEqual, DoublePlus, DoubleMinus}
 use Rattle.qml_grammar.specs.declared.word.Word.{Word}
-use Rattle.qml_grammar.specs.declared.word.Word.TheVariants.{True, False, Null, Undefined}
+use Rattle.qml_grammar.specs.declared.word.Word.TheVariants.{True, False, Null, Undefined, Var, Let, Const}
 
 -- what a token says
 pub data Lexeme : Type 0 where
@@ -46,6 +50,10 @@ last_of ts = slice_get ts (pred (length ts))
 
 -- Names and words
 
+-- what a name says
+unfoldable pub lexeme_of_name : List ℕ → Lexeme
+lexeme_of_name name = elim (word_of name) [ Some w ↦ word w | None ↦ plain name ]
+
 abbrev pub is_word_lexeme : Word → Lexeme → Bool
 is_word_lexeme w (word v) = same_word w v
 is_word_lexeme w _ = false
@@ -76,6 +84,24 @@ operand_name_of_lexeme _ = None
 abbrev pub operand_name_of : Option Token → Option (List ℕ)
 operand_name_of None = None
 operand_name_of (Some t) = operand_name_of_lexeme t.lexeme
+
+-- the word that declares a local
+abbrev pub local_word_of_word : Word → Option LocalWord
+local_word_of_word Var = Some AsVar
+local_word_of_word Let = Some AsLet
+local_word_of_word Const = Some AsConst
+local_word_of_word _ = None
+
+abbrev pub local_word_of : Option Token → Option LocalWord
+local_word_of None = None
+local_word_of (Some t) = elim t.lexeme [ word w ↦ local_word_of_word w | _ ↦ None ]
+
+-- Lines
+
+-- the one token begins on the line of the other one
+abbrev pub same_line : Option Token → Option Token → Bool
+same_line (Some s) (Some t) = s.span.line == t.span.line
+same_line _ _ = false
 
 -- Literals
 
@@ -145,6 +171,20 @@ equality_operator BangEqual = Some Ne
 equality_operator TripleEqual = Some Eq3
 equality_operator BangDoubleEqual = Some Ne3
 equality_operator _ = None
+
+abbrev pub assign_operator : Mark → Option AssignOp
+assign_operator Equal = Some Set
+assign_operator PlusEqual = Some AddTo
+assign_operator MinusEqual = Some SubFrom
+assign_operator StarEqual = Some MulBy
+assign_operator SlashEqual = Some DivBy
+assign_operator _ = None
+
+-- whether it counts up
+abbrev pub step_operator : Mark → Option Bool
+step_operator DoublePlus = Some true
+step_operator DoubleMinus = Some false
+step_operator _ = None
 
 -- What is unsupported
 

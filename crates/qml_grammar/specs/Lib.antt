@@ -1,7 +1,10 @@
+pub mod Ends
 pub mod ExpressionGrammar
 pub mod Expressions
 pub mod Inputs
 pub mod Lexemes
 pub mod Marks
 pub mod Samples
+pub mod StatementGrammar
+pub mod Statements
 pub mod Words

@@ -1,5 +1,5 @@
 -- The marks of the language.
-use Rattle.std.specs.Prelude.{ℕ, ◌==◌, Bool, List, codes}
+use Rattle.std.specs.Prelude.{ℕ, ◌==◌, Bool, List, [], ◌∷◌, codes}
 use Rattle.qml_grammar.specs.declared.mark.Mark.{Mark}
 use Rattle.qml_grammar.specs.declared.mark.Mark.TheVariants.{OpenBrace, CloseBrace, OpenParen, CloseParen, OpenBracket, CloseBracket, Semicolon, Colon, Comma, Dot, Question, Plus, Minus, Star, Slash, Percent, Bang, Less, Greater, LessEqual, GreaterEqual, EqualEqual, BangEqual, TripleEqual, BangDoubleEqual, DoubleAmpersand, DoubleBar, Equal, PlusEqual, MinusEqual, StarEqual, SlashEqual, DoublePlus, DoubleMinus}
 
@@ -80,3 +80,7 @@ mark_number DoubleMinus = 33
 -- both are the same mark
 unfoldable pub same_mark : Mark → Mark → Bool
 same_mark a b = mark_number a == mark_number b
+
+-- the longer ones first
+abbrev pub all_marks : List Mark
+all_marks = TripleEqual ∷ BangDoubleEqual ∷ LessEqual ∷ GreaterEqual ∷ EqualEqual ∷ BangEqual ∷ DoubleAmpersand ∷ DoubleBar ∷ PlusEqual ∷ MinusEqual ∷ StarEqual ∷ SlashEqual ∷ DoublePlus ∷ DoubleMinus ∷ OpenBrace ∷ CloseBrace ∷ OpenParen ∷ CloseParen ∷ OpenBracket ∷ CloseBracket ∷ Semicolon ∷ Colon ∷ Comma ∷ Dot ∷ Question ∷ Plus ∷ Minus ∷ Star ∷ Slash ∷ Percent ∷ Bang ∷ Less ∷ Greater ∷ Equal ∷ []

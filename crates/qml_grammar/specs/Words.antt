@@ -1,5 +1,5 @@
 -- The names that have a meaning of their own in some places.
-use Rattle.std.specs.Prelude.{ℕ, ◌==◌, ◌||◌, not, Bool, true, false, List, codes}
+use Rattle.std.specs.Prelude.{ℕ, ◌==◌, ◌||◌, not, Bool, true, false, List, [], ◌∷◌, Option, codes, bytes_eq, find}
 use Rattle.qml_grammar.specs.declared.word.Word.{Word}
 use Rattle.qml_grammar.specs.declared.word.Word.TheVariants.{Var, Let, Const, If, Else, While, For, Return, True, False, Null, Undefined, Function, Switch, Do, Break, Continue, Try, Throw, New, Delete, TypeOf, InstanceOf, In, Void, With, Class, This, Id, Property, ReadOnly, Signal, Default, Enum, Required, Alias, On, Import, As}
 
@@ -130,3 +130,10 @@ is_keyword _ = false
 -- it is a name where an expression or a statement begins
 abbrev pub is_ordinary : Word → Bool
 is_ordinary w = not (is_keyword w || is_unsupported w)
+
+abbrev pub all_words : List Word
+all_words = Var ∷ Let ∷ Const ∷ If ∷ Else ∷ While ∷ For ∷ Return ∷ True ∷ False ∷ Null ∷ Undefined ∷ Function ∷ Switch ∷ Do ∷ Break ∷ Continue ∷ Try ∷ Throw ∷ New ∷ Delete ∷ TypeOf ∷ InstanceOf ∷ In ∷ Void ∷ With ∷ Class ∷ This ∷ Id ∷ Property ∷ ReadOnly ∷ Signal ∷ Default ∷ Enum ∷ Required ∷ Alias ∷ On ∷ Import ∷ As ∷ []
+
+-- the word that is written so
+unfoldable pub word_of : List ℕ → Option Word
+word_of name = find (λ w. bytes_eq (word_text w) name) all_words
