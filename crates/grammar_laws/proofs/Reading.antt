@@ -5,7 +5,7 @@ use Rattle.qml_ast.specs.declared.fault.DocFault.{DocFault}
 use Rattle.qml_grammar.specs.ExpressionGrammar.{IsExpr}
 use Rattle.qml_grammar.specs.Expressions.{expr, whole}
 use Rattle.qml_grammar.specs.Inputs.{Input, ahead}
-use Rattle.grammar_laws.specs.Laws.{Reads, ReadsWhole, goes_on}
+use Rattle.grammar_laws.specs.Laws.{Reads, ReadsWhole}
 use Rattle.grammar_laws.proofs.Growing.{Covers}
 use Rattle.grammar_laws.proofs.Sound.{expr_sound}
 use Rattle.grammar_laws.proofs.Strength.{stops_of}
@@ -22,12 +22,13 @@ full i = record { rest = i.rest; end = i.end; nodes = 200 }
 
 whole_from : (d : ℕ) (i k : Input) (x : Expr) → Covers (IsExpr d) 0 (full i) k x → ReadsWhole d i (record { rest = k.rest; end = k.end; nodes = i.nodes }) x
 whole_from d i k x c = record {
-  nodes = c.nodes;
-  few = omega (arith, (c.way).used);
   text = c.text;
   way = record { rest = (c.way).rest; used = omega arith; end = (c.way).end };
-  spelled = c.spelled;
-  longest = stops_of (ahead k) c.stops }
+  spelled = record {
+    nodes = c.nodes;
+    few = omega (arith, (c.way).used);
+    spelled = c.spelled;
+    longest = stops_of (ahead k) c.stops } }
 
 pub whole_reads : (d : ℕ) (i j : Input) (x : Expr) → whole d i ≡ Ok (x, j) → ReadsWhole d i j x
 unfolding whole

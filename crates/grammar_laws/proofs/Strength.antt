@@ -1,13 +1,14 @@
 -- How tightly a token binds what stands before it, as a number: the tests of the single levels and those on
 -- whole expressions are comparisons of it.
-use Rattle.std.proofs.Common.{◌≡◌, ℕ, ◌≤◌, ◌==◌, ◌||◌, Bool, true, false, is_some, Option, Some, None, refl, sym, ap, ◌∙◌, arith}
+use Rattle.std.proofs.Common.{◌≡◌, ℕ, ◌≤◌, ◌==◌, ◌||◌, not, Bool, true, false, is_some, Option, Some, None, refl, sym, ap, ◌∙◌, arith}
 use Rattle.std.proofs.lemmas.Bool.Decides.{nat_tests}
+use Rattle.qml_ast.specs.declared.span.Span.{Span}
 use Rattle.qml_grammar.specs.Expressions.{begins_postfix, begins_operator}
 use Rattle.qml_grammar.specs.Lexemes.{Lexeme, plain, word, integer, decimal, text, mark, Token, is_mark, is_mark_lexeme, looked_up, product_operator, sum_operator, order_operator, equality_operator}
 use Rattle.qml_grammar.specs.Marks.{same_mark, mark_number}
 use Rattle.qml_grammar.specs.declared.mark.Mark.{Mark}
 use Rattle.qml_grammar.specs.declared.mark.Mark.TheVariants.{OpenBrace, OpenParen, Comma, Colon, Dot, Question, Plus, Minus, Star, Slash, Percent, Less, Greater, LessEqual, GreaterEqual, EqualEqual, BangEqual, TripleEqual, BangDoubleEqual, DoubleAmpersand, DoubleBar}
-use Rattle.grammar_laws.specs.Laws.{goes_on}
+use Rattle.qml_grammar.specs.StatementGrammar.{goes_on}
 
 abbrev pub mark_strength : Mark → ℕ
 mark_strength OpenParen = 8
@@ -158,19 +159,26 @@ strength_most (Some t) = lexeme_strength_most t.lexeme
 
 -- Whole expressions
 
-abbrev goes_on_at : ℕ → Bool
-goes_on_at n = n == 8 || (n == 7 || n == 6 || n == 5 || n == 4 || n == 3 || n == 2) || n == 1
+mark_goes_on : (m : Mark) (s : Span) → goes_on (Some (record { lexeme = mark m; span = s })) ≡ not (mark_strength m == 0)
+unfolding same_mark mark_number
+mark_goes_on OpenBrace s = refl
+mark_goes_on _ s = refl
 
-goes_on_is : (t : Option Token) → goes_on t ≡ goes_on_at (strength t)
-goes_on_is t = rw (tells_postfix t, tells_product t, tells_sum t, tells_order t, tells_equality t, tells_conjunction t, tells_disjunction t, tells_question t)
+lexeme_goes_on : (l : Lexeme) (s : Span) → goes_on (Some (record { lexeme = l; span = s })) ≡ not (lexeme_strength l == 0)
+lexeme_goes_on (mark m) s = mark_goes_on m s
+lexeme_goes_on _ s = refl
 
-none_goes_on : (n : ℕ) → n ≤ 8 → goes_on_at n ≡ false → n ≤ 0
-none_goes_on n b h = grind (arith, nat_tests)
+goes_on_is : (t : Option Token) → goes_on t ≡ not (strength t == 0)
+goes_on_is None = refl
+goes_on_is (Some t) = lexeme_goes_on t.lexeme t.span
+
+none_at : (n : ℕ) → not (n == 0) ≡ false → n ≤ 0
+none_at n h = grind (arith, nat_tests)
 
 pub stops_of : (t : Option Token) → strength t ≤ 0 → goes_on t ≡ false
 stops_of t h =
     let e : strength t ≡ 0 = omega arith in
-    goes_on_is t ∙ ap goes_on_at e
+    goes_on_is t ∙ ap (λ n. not (n == 0)) e
 
 pub strength_of : (t : Option Token) → goes_on t ≡ false → strength t ≤ 0
-strength_of t h = none_goes_on (strength t) (strength_most t) (sym (goes_on_is t) ∙ h)
+strength_of t h = none_at (strength t) (sym (goes_on_is t) ∙ h)
