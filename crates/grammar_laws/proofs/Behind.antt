@@ -1,5 +1,5 @@
 -- Inputs with tokens put in front, and readings of them.
-use Rattle.std.proofs.Common.{◌≡◌, ℕ, zero, suc, ◌+◌, ◌≤◌, ◌<◌, Bool, true, false, if◌then◌else◌, List, [], ◌∷◌, ◌++◌, length, Option, Some, None, Result, Ok, Err, refl, sym, ap, ◌∙◌, arith, add_assoc, append_assoc, length-append}
+use Rattle.std.proofs.Common.{◌≡◌, ℕ, zero, suc, ◌+◌, ◌≤◌, ◌<◌, Bool, true, false, if◌then◌else◌, List, [], ◌∷◌, ◌++◌, length, Option, Some, None, Result, Ok, Err, refl, sym, ap, subst, ◌∙◌, arith, add_assoc, append_assoc, length-append}
 use Rattle.qml_ast.specs.declared.fault.DocFault.{DocFault}
 use Rattle.qml_grammar.specs.Inputs.{Input, Parser, ahead, after, take_node, expect, repeated, while_next}
 use Rattle.qml_grammar.specs.Lexemes.{Token, head, is_mark}
@@ -10,7 +10,7 @@ use Rattle.grammar_laws.specs.Laws.{Way}
 abbrev pub behind : List Token → ℕ → Input → Input
 behind ts n j = record { rest = ts ++ j.rest; end = j.end; nodes = n + j.nodes }
 
-same_input_by : {i j : Input} → i.rest ≡ j.rest → i.end ≡ j.end → i.nodes ≡ j.nodes → i ≡ j
+pub same_input_by : {i j : Input} → i.rest ≡ j.rest → i.end ≡ j.end → i.nodes ≡ j.nodes → i ≡ j
 same_input_by r e n = λ l. record { rest = r l; end = e l; nodes = n l }
 
 pub behind_both : {ts : List Token} {k : ℕ} (us vs : List Token) (m n : ℕ) (j : Input) → ts ≡ us ++ vs → k ≡ m + n → behind ts k j ≡ behind us m (behind vs n j)
@@ -45,6 +45,12 @@ failed p q e h = rw e h
 pub node_behind : (t : Token) (ts : List Token) (n : ℕ) (j : Input) → take_node (behind (t ∷ ts) (1 + n) j) ≡ Ok (tt, behind ts n j)
 node_behind t ts n j = let e : (1 + n) + j.nodes ≡ suc (n + j.nodes) = omega arith in rw e
 
+pub last_behind : (j : Input) → behind [] 0 j ≡ j
+last_behind j = same_input_by refl refl (omega arith)
+
+pub node_last : (t : Token) (j : Input) → take_node (behind (t ∷ []) 1 j) ≡ Ok (tt, j)
+node_last t j = node_behind t [] 0 j ∙ ap (λ i. Ok (tt, i)) (last_behind j)
+
 -- Loops
 
 -- reading the tokens is reading on behind them
@@ -52,6 +58,9 @@ pub record GoesOn {A : Type 0} (p : Parser A) (test : Option Token → Bool) (st
   pub fuel : ℕ
   pub enough : length j.rest ≤ fuel
   pub same : p (behind ts k j) ≡ repeated test step fuel x j
+
+pub goes_as : {A : Type 0} {p : Parser A} {test : Option Token → Bool} {step : A → Parser A} {ts : List Token} {k : ℕ} {x y : A} {j : Input} → GoesOn p test step ts k x j → y ≡ x → GoesOn p test step ts k y j
+goes_as {p = p} {test = test} {step = step} {ts = ts} {k = k} {j = j} g e = subst (λ z. GoesOn p test step ts k z j) (sym e) g
 
 module _ {A : Type 0} (p : Parser A) (test : Option Token → Bool) (step : A → Parser A) where
 
@@ -64,9 +73,9 @@ module _ {A : Type 0} (p : Parser A) (test : Option Token → Bool) (step : A �
   stopped zero x i t = refl
   stopped (suc n) x i t = failed _ _ t refl
 
-  pub goes_first : (q : Parser A) (ts : List Token) (k : ℕ) (x : A) (j : Input) → p (behind ts k j) ≡ while_next test step x j → GoesOn p test step ts k x j
+  pub goes_first : (ts : List Token) (k : ℕ) (x : A) (j : Input) → p (behind ts k j) ≡ while_next test step x j → GoesOn p test step ts k x j
   unfolding while_next
-  goes_first q ts k x j h = record { fuel = length j.rest; enough = omega arith; same = h }
+  goes_first ts k x j h = record { fuel = length j.rest; enough = omega arith; same = h }
 
   more_from : (ts us : List Token) (o : Token) (vs : List Token) (k m n : ℕ) (x y : A) (j : Input) (fuel : ℕ) → length (o ∷ vs ++ j.rest) ≤ fuel → p (behind us m (behind (o ∷ vs) n j)) ≡ repeated test step fuel x (behind (o ∷ vs) n j) → k ≡ m + n → ts ≡ us ++ o ∷ vs → test (Some o) ≡ true → step x (behind (o ∷ vs) n j) ≡ Ok (y, j) → GoesOn p test step ts k y j
   more_from ts us o vs k m n x y j zero enough same e t is h = absurd (omega arith)

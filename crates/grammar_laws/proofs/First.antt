@@ -6,12 +6,13 @@ use Rattle.qml_ast.specs.declared.expr.UnOp.{UnOp}
 use Rattle.qml_ast.specs.declared.span.Span.{Span}
 use Rattle.qml_ast.specs.declared.value.Value.{Value}
 use Rattle.qml_grammar.specs.ExpressionGrammar.{IsPrimary, literal, name, parens, IsPostfix, primary, member, call_none, call, AreArguments, one_argument, more_arguments, IsUnary, operated, postfix, IsProduct, unary, times, IsSum, product, plus, IsOrder, sum, compare, IsEquality, order, equal, IsConjunction, equality, both, IsDisjunction, conjunction, either, IsExpr, disjunction, conditional}
-use Rattle.qml_grammar.specs.Lexemes.{Lexeme, plain, word, integer, decimal, text, mark, Token, is_mark, is_mark_lexeme, atom_of, value_of, operand_name_of, looked_up, unary_operator}
+use Rattle.qml_grammar.specs.Inputs.{Input, ahead}
+use Rattle.qml_grammar.specs.Lexemes.{head, Lexeme, plain, word, integer, decimal, text, mark, Token, is_mark, is_mark_lexeme, atom_of, value_of, operand_name_of, looked_up, unary_operator}
 use Rattle.qml_grammar.specs.Marks.{same_mark, mark_number}
 use Rattle.qml_grammar.specs.Statements.{begins_expr}
 use Rattle.qml_grammar.specs.declared.mark.Mark.{Mark}
 use Rattle.qml_grammar.specs.declared.mark.Mark.TheVariants.{OpenBrace, OpenParen, CloseParen, Colon, Comma}
-use Rattle.grammar_laws.proofs.Behind.{found, missing}
+use Rattle.grammar_laws.proofs.Behind.{behind, found, missing}
 use Rattle.grammar_laws.proofs.Strength.{strength}
 
 -- Single tokens
@@ -68,14 +69,17 @@ pub record Begins (test : Option Token → Bool) (ts : List Token) : Type 0 wher
 pub begins_left : {test : Option Token → Bool} {ts : List Token} (us vs : List Token) → ts ≡ us ++ vs → Begins test us → Begins test ts
 begins_left us vs e b = record { token = b.token; others = b.others ++ vs; text = e ∙ ap (λ ws. ws ++ vs) b.text; begins = b.begins }
 
+pub ahead_begins : {test : Option Token → Bool} {ts : List Token} (b : Begins test ts) (k : ℕ) (j : Input) → ahead (behind ts k j) ≡ Some b.token
+ahead_begins b k j = ap (λ ws. head (ws ++ j.rest)) b.text
+
 some_or : {A : Type 0} {o : Option A} {x : A} (b : Bool) → o ≡ Some x → (is_some o || b) ≡ true
 some_or b h = rw h
 
-or_right : (a : Bool) {b : Bool} → b ≡ true → (a || b) ≡ true
+pub or_right : (a : Bool) {b : Bool} → b ≡ true → (a || b) ≡ true
 or_right true h = refl
 or_right false h = h
 
-or_left : (a b : Bool) → a ≡ true → (a || b) ≡ true
+pub or_left : (a b : Bool) → a ≡ true → (a || b) ≡ true
 or_left true b h = refl
 or_left false b h = absurd cc
 

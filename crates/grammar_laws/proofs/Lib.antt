@@ -1,4 +1,5 @@
 pub mod Behind
+pub mod Complete
 pub mod First
 pub mod Growing
 pub mod Reading

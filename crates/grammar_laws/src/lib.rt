@@ -13,3 +13,10 @@ pub fn reads_spelled()
     ensures inside { (d : ℕ) (i j : Input) (x : Expr) → expr d i ≡ Ok (x, j) → Reads d i j x }
     ensures outermost { (d : ℕ) (i j : Input) (x : Expr) → whole d i ≡ Ok (x, j) → ReadsWhole d i j x }
 {}
+
+/// What the productions spell, before a token that does not go on with it, is read, with exactly this rest and
+/// as many nodes used.
+pub fn spelled_read()
+    ensures inside { (d : ℕ) (i j : Input) (x : Expr) → Reads d i j x → expr d i ≡ Ok (x, j) }
+    ensures outermost { (d : ℕ) (i j : Input) (x : Expr) → ReadsWhole d i j x → whole d i ≡ Ok (x, j) }
+{}
