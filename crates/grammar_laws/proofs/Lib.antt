@@ -2,6 +2,7 @@ pub mod Behind
 pub mod Complete
 pub mod First
 pub mod Growing
+pub mod Local
 pub mod Reading
 pub mod Sound
 pub mod Strength
