@@ -36,7 +36,7 @@ found f z e h = rw e h
 pub missing : {A B : Type 0} {o : Option A} (f : A → B) (z : B) {y : B} → o ≡ None → z ≡ y → ◌≡◌ {A = B} (elim o [ Some w ↦ f w | None ↦ z ]) y
 missing f z e h = rw e h
 
-passed : {A : Type 0} {b : Bool} (p q : A) {y : A} → b ≡ true → p ≡ y → ◌≡◌ {A = A} (elim b [ true ↦ p | false ↦ q ]) y
+pub passed : {A : Type 0} {b : Bool} (p q : A) {y : A} → b ≡ true → p ≡ y → ◌≡◌ {A = A} (elim b [ true ↦ p | false ↦ q ]) y
 passed p q e h = rw e h
 
 failed : {A : Type 0} {b : Bool} (p q : A) {y : A} → b ≡ false → q ≡ y → ◌≡◌ {A = A} (elim b [ true ↦ p | false ↦ q ]) y
@@ -64,11 +64,11 @@ goes_as {p = p} {test = test} {step = step} {ts = ts} {k = k} {j = j} g e = subs
 
 module _ {A : Type 0} (p : Parser A) (test : Option Token → Bool) (step : A → Parser A) where
 
-  again : (n : ℕ) (x y : A) (i j : Input) → test (ahead i) ≡ true → step x i ≡ Ok (y, j) → repeated test step (suc n) x i ≡ repeated test step n y j
+  pub again : (n : ℕ) (x y : A) (i j : Input) → test (ahead i) ≡ true → step x i ≡ Ok (y, j) → repeated test step (suc n) x i ≡ repeated test step n y j
   unfolding repeated
   again n x y i j t h = passed _ _ t (ok_then _ h refl)
 
-  stopped : (n : ℕ) (x : A) (i : Input) → test (ahead i) ≡ false → repeated test step n x i ≡ Ok (x, i)
+  pub stopped : (n : ℕ) (x : A) (i : Input) → test (ahead i) ≡ false → repeated test step n x i ≡ Ok (x, i)
   unfolding repeated
   stopped zero x i t = refl
   stopped (suc n) x i t = failed _ _ t refl

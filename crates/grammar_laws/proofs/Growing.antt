@@ -50,7 +50,7 @@ went_from : {A : Type 0} (test : Option Token → Bool) (step : A → Parser A) 
 went_from test step n x i y j true t h = went_by test step n x i y j t (step x i) refl h
 went_from test step n x i y j false t h = stopped t h
 
-went_on : {A : Type 0} (test : Option Token → Bool) (step : A → Parser A) (n : ℕ) (x : A) (i : Input) (y : A) (j : Input) → repeated test step (suc n) x i ≡ Ok (y, j) → Went test step n x i y j
+pub went_on : {A : Type 0} (test : Option Token → Bool) (step : A → Parser A) (n : ℕ) (x : A) (i : Input) (y : A) (j : Input) → repeated test step (suc n) x i ≡ Ok (y, j) → Went test step n x i y j
 unfolding repeated
 went_on test step n x i y j h = went_from test step n x i y j (test (ahead i)) refl h
 
@@ -60,7 +60,7 @@ pub record Loops {A : Type 0} (Spells : ℕ → List Token → A → Type 0) (bo
   pub covers : Covers Spells bound i j y
   pub ends : test (ahead j) ≡ false
 
-no_token : (ts : List Token) → length ts ≤ 0 → head ts ≡ None
+pub no_token : (ts : List Token) → length ts ≤ 0 → head ts ≡ None
 no_token [] h = refl
 no_token (t ∷ ts) h = absurd (omega arith)
 
