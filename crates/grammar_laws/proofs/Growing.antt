@@ -33,7 +33,7 @@ adds_to {Spells = Spells} {bound = bound} {w = w} {i = i} {j = j} {k = k} {x = x
 pub covers_then : {A : Type 0} {Spells : ℕ → List Token → A → Type 0} {bound limit : ℕ} {i j k : Input} {x y : A} → Covers Spells limit i j x → Adds Spells bound x j k y → Covers Spells bound i k y
 covers_then c a = record { nodes = c.nodes + a.nodes; text = c.text ++ a.token ∷ a.others; way = way_then c.way a.way; spelled = a.spelled c.nodes c.text c.spelled; stops = a.stops }
 
-shorter : {i j : Input} {n : ℕ} {t : Token} {ts : List Token} → Way i j n (t ∷ ts) → length j.rest < length i.rest
+pub shorter : {i j : Input} {n : ℕ} {t : Token} {ts : List Token} → Way i j n (t ∷ ts) → length j.rest < length i.rest
 shorter {ts = ts} w = rw (w.rest, length-append) (omega arith)
 
 -- How a loop went on

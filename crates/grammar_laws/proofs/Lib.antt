@@ -3,6 +3,7 @@ pub mod Complete
 pub mod First
 pub mod Growing
 pub mod Local
+pub mod LocalExpressions
 pub mod LocalLoops
 pub mod LocalTokens
 pub mod Reading
