@@ -1,9 +1,8 @@
 -- Inputs with tokens put in front, and readings of them.
-use Rattle.std.proofs.Common.{◌≡◌, ℕ, zero, suc, ◌+◌, ◌≤◌, ◌<◌, Bool, true, false, if◌then◌else◌, List, [], ◌∷◌, ◌++◌, length, Option, Some, None, Result, Ok, Err, refl, sym, ap, subst, ◌∙◌, arith, add_assoc, append_assoc, length-append}
+use Rattle.std.proofs.Common.{◌≡◌, ℕ, zero, suc, ◌+◌, ◌≤◌, Bool, true, false, if◌then◌else◌, List, [], ◌∷◌, ◌++◌, length, Option, Some, None, Result, Ok, Err, refl, sym, ap, subst, ◌∙◌, arith, append_assoc, length-append}
 use Rattle.qml_ast.specs.declared.fault.DocFault.{DocFault}
-use Rattle.qml_grammar.specs.Inputs.{Input, Parser, ahead, after, take_node, expect, repeated, while_next}
-use Rattle.qml_grammar.specs.Lexemes.{Token, head, is_mark}
-use Rattle.qml_grammar.specs.declared.mark.Mark.{Mark}
+use Rattle.qml_grammar.specs.Inputs.{Input, Parser, ahead, take_node, repeated, while_next}
+use Rattle.qml_grammar.specs.Lexemes.{Token}
 use Rattle.grammar_laws.specs.Laws.{Way}
 
 -- the input with tokens of so many nodes in front
@@ -63,7 +62,6 @@ pub goes_as : {A : Type 0} {p : Parser A} {test : Option Token → Bool} {step :
 goes_as {p = p} {test = test} {step = step} {ts = ts} {k = k} {j = j} g e = subst (λ z. GoesOn p test step ts k z j) (sym e) g
 
 module _ {A : Type 0} (p : Parser A) (test : Option Token → Bool) (step : A → Parser A) where
-
   pub again : (n : ℕ) (x y : A) (i j : Input) → test (ahead i) ≡ true → step x i ≡ Ok (y, j) → repeated test step (suc n) x i ≡ repeated test step n y j
   unfolding repeated
   again n x y i j t h = passed _ _ t (ok_then _ h refl)
@@ -82,7 +80,8 @@ module _ {A : Type 0} (p : Parser A) (test : Option Token → Bool) (step : A �
   more_from ts us o vs k m n x y j (suc fuel) enough same e t is h = record {
     fuel = fuel;
     enough = omega (arith, length-append vs j.rest);
-    same = ap p (behind_both us (o ∷ vs) m n j t e) ∙ (same ∙ again fuel x y (behind (o ∷ vs) n j) j is h) }
+    same = ap p (behind_both us (o ∷ vs) m n j t e) ∙ (same ∙ again fuel x y (behind (o ∷ vs) n j) j is h);
+  }
 
   pub goes_more : (ts us : List Token) (o : Token) (vs : List Token) (k m n : ℕ) (x y : A) (j : Input) → GoesOn p test step us m x (behind (o ∷ vs) n j) → k ≡ m + n → ts ≡ us ++ o ∷ vs → test (Some o) ≡ true → step x (behind (o ∷ vs) n j) ≡ Ok (y, j) → GoesOn p test step ts k y j
   goes_more ts us o vs k m n x y j g = more_from ts us o vs k m n x y j g.fuel g.enough g.same

@@ -1,22 +1,19 @@
 -- What the productions spell, before a token that does not go on with it, is read, level by level.
-use Rattle.std.proofs.Common.{◌≡◌, ◌≢◌, ℕ, zero, suc, ◌+◌, ◌≤◌, ◌<◌, ◌==◌, Bool, true, false, is_some, List, [], ◌∷◌, ◌++◌, Option, Some, None, Result, Ok, Err, refl, sym, ap, subst, ◌∙◌, arith, append_assoc}
+use Rattle.std.proofs.Common.{◌≡◌, ℕ, zero, suc, ◌+◌, ◌≤◌, Bool, true, false, is_some, List, [], ◌∷◌, ◌++◌, Option, Some, None, Ok, Err, refl, sym, ap, subst, ◌∙◌, arith, append_assoc}
 use Rattle.std.proofs.lemmas.Bool.{ne_eqb, eqb-true}
 use Rattle.qml_ast.specs.declared.expr.BinOp.{BinOp}
 use Rattle.qml_ast.specs.declared.expr.Expr.{Expr}
 use Rattle.qml_ast.specs.declared.expr.Expr.TheVariants.{Lit, Name, Member, Call, Unary, Binary, And, Or, Cond}
 use Rattle.qml_ast.specs.declared.expr.UnOp.{UnOp}
-use Rattle.qml_ast.specs.declared.fault.DocFault.{DocFault}
-use Rattle.qml_ast.specs.declared.span.Span.{Span}
-use Rattle.qml_ast.specs.declared.value.Value.{Value}
 use Rattle.qml_grammar.specs.ExpressionGrammar.{IsMark, IsOperator, IsPrimary, literal, name, parens as in_parens, IsPostfix, primary as a_primary, member as a_member, call_none, call as a_call, AreArguments, one_argument, more_arguments, IsUnary, operated as an_operated, postfix as a_postfix, IsProduct, unary as a_unary, times, IsSum, product, plus, IsOrder, sum, compare, IsEquality, order, equal, IsConjunction, equality, both, IsDisjunction, conjunction, either, IsExpr, disjunction, conditional as a_conditional}
 use Rattle.qml_grammar.specs.Expressions.{Inner, parens, atom, primary, member, argument, some_arguments, arguments, call, begins_postfix, postfix, postfixes, operated, unary_in, joined, begins_operator, operator, chain, products, sums, orders, equalities, conjunctions, disjunctions, branches, conditional, expr_in, inner, expr}
-use Rattle.qml_grammar.specs.Inputs.{Input, Parser, ahead, after, take_node, expect, any_name, while_next}
-use Rattle.qml_grammar.specs.Lexemes.{Lexeme, mark, Token, head, is_mark, is_mark_lexeme, atom_of, value_of, operand_name_of, name_of, looked_up, unary_operator, product_operator, sum_operator, order_operator, equality_operator}
+use Rattle.qml_grammar.specs.Inputs.{Input, Parser, ahead, expect, any_name, while_next}
+use Rattle.qml_grammar.specs.Lexemes.{Lexeme, mark, Token, is_mark, is_mark_lexeme, atom_of, name_of, looked_up, unary_operator, product_operator, sum_operator, order_operator, equality_operator}
 use Rattle.qml_grammar.specs.Marks.{same_mark, mark_number}
 use Rattle.qml_grammar.specs.declared.mark.Mark.{Mark}
-use Rattle.qml_grammar.specs.declared.mark.Mark.TheVariants.{OpenBrace, OpenParen, CloseParen, Colon, Comma, Dot, Question, DoubleAmpersand, DoubleBar}
+use Rattle.qml_grammar.specs.declared.mark.Mark.TheVariants.{OpenParen, CloseParen, Colon, Comma, Dot, Question, DoubleAmpersand, DoubleBar}
 use Rattle.grammar_laws.proofs.Behind.{behind, behind_both, last_behind, ok_then, if_true, if_false, found, missing, node_behind, node_last, GoesOn, goes_as, goes_first, goes_more, goes_last}
-use Rattle.grammar_laws.proofs.First.{Begins, begins_left, ahead_begins, or_left, or_right, begins_primary, literal_atom, name_atom, no_open, no_unary, no_close, postfix_begins, expr_begins, arguments_begin}
+use Rattle.grammar_laws.proofs.First.{begins_left, ahead_begins, or_left, or_right, literal_atom, name_atom, no_open, no_unary, no_close, postfix_begins, arguments_begin}
 use Rattle.grammar_laws.proofs.Tools.{bind_ok}
 use Rattle.grammar_laws.proofs.Strength.{strength, Tells, lexeme_strength, mark_strength, tells_postfix, tells_product, tells_sum, tells_order, tells_equality, tells_conjunction, tells_disjunction, tells_question}
 
@@ -122,7 +119,6 @@ unfolding joined
 joined_goes make operand y z o vs n j h = ok_then _ (node_behind o vs n j) (ok_then _ h refl)
 
 module _ (table : Mark → Option BinOp) (operand : Parser Expr) (level : ℕ) (tells : Tells (begins_operator table) (suc level)) (Operand : ℕ → List Token → Expr → Type 0) (complete : (k : ℕ) (ts : List Token) (x : Expr) (j : Input) → Operand k ts x → strength (ahead j) ≤ suc level → operand (behind ts k j) ≡ Ok (x, j)) where
-
   -- reading these tokens is reading on behind them
   abbrev ChainGoesOn : List Token → ℕ → Expr → Input → Type 0
   ChainGoesOn = GoesOn (chain table operand) (begins_operator table) (operator table operand)
@@ -146,7 +142,6 @@ module _ (table : Mark → Option BinOp) (operand : Parser Expr) (level : ℕ) (
 
 -- likewise for one mark between operands
 module _ (m : Mark) (make : Expr → Expr → Expr) (whole operand : Parser Expr) (level : ℕ) (tells : Tells (is_mark m) (suc level)) (Operand : ℕ → List Token → Expr → Type 0) (complete : (k : ℕ) (ts : List Token) (x : Expr) (j : Input) → Operand k ts x → strength (ahead j) ≤ suc level → operand (behind ts k j) ≡ Ok (x, j)) where
-
   abbrev MarksGoOn : List Token → ℕ → Expr → Input → Type 0
   MarksGoOn = GoesOn whole (is_mark m) (joined make operand)
 
@@ -169,7 +164,6 @@ unfolding primary atom
 literal_or_name_goes v t x j h = if_false _ _ (no_open t x h) (found _ _ h (ok_then _ (node_last t j) refl))
 
 module _ (d : ℕ) (v : Inner) (inside : CompleteInside d v) where
-
   parens_go : (c k : ℕ) (o : Token) (us : List Token) (z : Token) (x : Expr) (j : Input) → d ≡ suc c → IsMark o OpenParen → IsExpr c k us x → IsMark z CloseParen → primary v (behind (o ∷ us ++ z ∷ []) k j) ≡ Ok (x, j)
   unfolding primary parens
   parens_go c k o us z x j d_is open_is p close_is =
@@ -315,11 +309,13 @@ unfolding inner
 complete zero = record {
   enter = λ c e i. absurd (no_level c e);
   expr = λ c e k ts x j p s. absurd (no_level c e);
-  unary = λ c e k ts x j p s. absurd (no_level c e) }
+  unary = λ c e k ts x j p s. absurd (no_level c e);
+}
 complete (suc d) = record {
   enter = λ c e i. refl;
   expr = λ c e k ts x j p s. expr_goes d (inner d) (complete d) k ts x j (subst (λ n. IsExpr n k ts x) (one_less c d e) p) s;
-  unary = λ c e k ts x j p s. unary_goes d (inner d) (complete d) k ts x j (subst (λ n. IsUnary n k ts x) (one_less c d e) p) s }
+  unary = λ c e k ts x j p s. unary_goes d (inner d) (complete d) k ts x j (subst (λ n. IsUnary n k ts x) (one_less c d e) p) s;
+}
 
 pub expr_complete : (d k : ℕ) (ts : List Token) (x : Expr) (j : Input) → IsExpr d k ts x → strength (ahead j) ≤ 0 → expr d (behind ts k j) ≡ Ok (x, j)
 unfolding expr

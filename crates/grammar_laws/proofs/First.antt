@@ -1,5 +1,5 @@
 -- The first token of what is spelled.
-use Rattle.std.proofs.Common.{◌≡◌, ℕ, ◌+◌, ◌≤◌, ◌||◌, Bool, true, false, is_some, List, [], ◌∷◌, ◌++◌, Option, Some, None, refl, sym, ap, ◌∙◌, arith, append_assoc}
+use Rattle.std.proofs.Common.{◌≡◌, ℕ, ◌||◌, Bool, true, false, is_some, List, [], ◌∷◌, ◌++◌, Option, Some, None, refl, ap, ◌∙◌, append_assoc}
 use Rattle.qml_ast.specs.declared.expr.Expr.{Expr}
 use Rattle.qml_ast.specs.declared.expr.Expr.TheVariants.{Lit, Name}
 use Rattle.qml_ast.specs.declared.expr.UnOp.{UnOp}
@@ -7,13 +7,12 @@ use Rattle.qml_ast.specs.declared.span.Span.{Span}
 use Rattle.qml_ast.specs.declared.value.Value.{Value}
 use Rattle.qml_grammar.specs.ExpressionGrammar.{IsPrimary, literal, name, parens, IsPostfix, primary, member, call_none, call, AreArguments, one_argument, more_arguments, IsUnary, operated, postfix, IsProduct, unary, times, IsSum, product, plus, IsOrder, sum, compare, IsEquality, order, equal, IsConjunction, equality, both, IsDisjunction, conjunction, either, IsExpr, disjunction, conditional}
 use Rattle.qml_grammar.specs.Inputs.{Input, ahead}
-use Rattle.qml_grammar.specs.Lexemes.{head, Lexeme, plain, word, integer, decimal, text, mark, Token, is_mark, is_mark_lexeme, atom_of, value_of, operand_name_of, looked_up, unary_operator}
+use Rattle.qml_grammar.specs.Lexemes.{head, Lexeme, mark, Token, is_mark, is_mark_lexeme, atom_of, value_of, operand_name_of, looked_up, unary_operator}
 use Rattle.qml_grammar.specs.Marks.{same_mark, mark_number}
 use Rattle.qml_grammar.specs.Statements.{begins_expr}
 use Rattle.qml_grammar.specs.declared.mark.Mark.{Mark}
-use Rattle.qml_grammar.specs.declared.mark.Mark.TheVariants.{OpenBrace, OpenParen, CloseParen, Colon, Comma}
+use Rattle.qml_grammar.specs.declared.mark.Mark.TheVariants.{OpenParen, CloseParen}
 use Rattle.grammar_laws.proofs.Behind.{behind, found, missing}
-use Rattle.grammar_laws.proofs.Strength.{strength}
 
 -- Single tokens
 

@@ -1,11 +1,11 @@
 -- What a reading gives is spelled by the tokens that it took; what is read on from a value adds tokens to it.
-use Rattle.std.proofs.Common.{◌≡◌, ℕ, zero, suc, ◌+◌, ◌≤◌, ◌<◌, Bool, true, false, List, [], ◌∷◌, ◌++◌, length, Option, Some, None, Result, Ok, Err, refl, sym, ap, subst, subst₂, ◌∙◌, arith, append_assoc, length-append}
+use Rattle.std.proofs.Common.{◌≡◌, ℕ, zero, suc, ◌+◌, ◌≤◌, ◌<◌, Bool, true, false, List, [], ◌∷◌, ◌++◌, length, Option, None, Result, Ok, Err, refl, ap, subst, subst₂, ◌∙◌, arith, length-append}
 use Rattle.qml_ast.specs.declared.fault.DocFault.{DocFault}
 use Rattle.qml_grammar.specs.Inputs.{Input, Parser, ahead, repeated, while_next}
 use Rattle.qml_grammar.specs.Lexemes.{Token, head}
 use Rattle.grammar_laws.specs.Laws.{Way}
 use Rattle.grammar_laws.proofs.Strength.{strength}
-use Rattle.grammar_laws.proofs.Tools.{way_then, counted, same_value, same_input}
+use Rattle.grammar_laws.proofs.Tools.{way_then, same_value, same_input}
 
 -- between the inputs stands the value, and what follows binds no tighter than this
 pub record Covers {A : Type 0} (Spells : ℕ → List Token → A → Type 0) (bound : ℕ) (i j : Input) (x : A) : Type 0 where
@@ -68,13 +68,13 @@ loops_to : {A : Type 0} {Spells : ℕ → List Token → A → Type 0} {bound : 
 loops_to {test = test} {j = j} {k = k} {x = x} {y = y} c t e = record { covers = covers_to c e; ends = subst (λ l. test (ahead l) ≡ false) (same_input x y j k e) t }
 
 module _ {A : Type 0} (Spells : ℕ → List Token → A → Type 0) (bound : ℕ) (test : Option Token → Bool) (step : A → Parser A) (none : test None ≡ false) (adds : (x : A) (i : Input) (y : A) (j : Input) → test (ahead i) ≡ true → step x i ≡ Ok (y, j) → Adds Spells bound x i j y) where
-
   repeated_covers : (n : ℕ) (o i : Input) (x y : A) (j : Input) → length i.rest ≤ n → Covers Spells bound o i x → repeated test step n x i ≡ Ok (y, j) → Loops Spells bound test o j y
   unfolding repeated
   repeated_covers zero o i x y j few c h = loops_to c (ap test (no_token i.rest few) ∙ none) h
   repeated_covers (suc n) o i x y j few c h = elim (went_on test step n x i y j h) [
-      stopped t e ↦ loops_to c t e
-    | went z k t e g ↦ (let a = adds x i z k t e in repeated_covers n o k z y j (let lt = shorter a.way in omega arith) (covers_then c a) g) ]
+    | stopped t e ↦ loops_to c t e
+    | went z k t e g ↦ (let a = adds x i z k t e in repeated_covers n o k z y j (let lt = shorter a.way in omega arith) (covers_then c a) g)
+  ]
 
   pub while_covers : (o i : Input) (x y : A) (j : Input) → Covers Spells bound o i x → while_next test step x i ≡ Ok (y, j) → Loops Spells bound test o j y
   unfolding while_next

@@ -1,5 +1,6 @@
 pub mod Behind
 pub mod Complete
+pub mod Failing
 pub mod First
 pub mod Growing
 pub mod Local

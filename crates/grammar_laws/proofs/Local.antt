@@ -1,14 +1,12 @@
 -- Readings that depend on the tokens that they take and on the one behind them alone, or up to their fault.
-use Rattle.std.proofs.Common.{◌≡◌, ℕ, zero, suc, ◌+◌, ◌≤◌, ◌<◌, Bool, true, false, if◌then◌else◌, List, [], ◌∷◌, ◌++◌, length, Option, Some, None, Result, Ok, Err, inl, inr, ◌⊎◌, refl, sym, ap, ap₂, subst, subst₂, ◌∙◌, arith, append_assoc, length-append}
+use Rattle.std.proofs.Common.{◌≡◌, ℕ, ◌+◌, Bool, if◌then◌else◌, List, [], ◌∷◌, ◌++◌, Option, Some, None, Result, Ok, Err, inl, inr, refl, sym, ap, ◌∙◌, arith}
 use Rattle.qml_ast.specs.declared.fault.DocFault.{DocFault}
-use Rattle.qml_ast.specs.declared.fault.DocFault.TheVariants.{TooDeep}
-use Rattle.qml_ast.specs.declared.span.Span.{Span}
-use Rattle.qml_grammar.specs.Inputs.{Input, Parser, ahead, after, place, take_node}
-use Rattle.qml_grammar.specs.Lexemes.{Token, head, tail}
-use Rattle.grammar_laws.specs.Faults.{IsFaultAt, syntax, unsupported, deep, IsLike}
+use Rattle.qml_grammar.specs.Inputs.{Input, Parser, ahead, place}
+use Rattle.qml_grammar.specs.Lexemes.{Token}
+use Rattle.grammar_laws.specs.Faults.{IsFaultAt, IsLike}
 use Rattle.grammar_laws.specs.Laws.{Way}
-use Rattle.grammar_laws.proofs.Behind.{behind, behind_both, last_behind, way_behind, same_input_by, ok_then, if_true, if_false, found, missing}
-use Rattle.grammar_laws.proofs.Tools.{bind_ok, way_none, way_then, if_ok, same_value, same_input}
+use Rattle.grammar_laws.proofs.Behind.{behind, behind_both, way_behind, ok_then, if_true, if_false, found, missing}
+use Rattle.grammar_laws.proofs.Tools.{bind_ok, way_then, if_ok}
 
 -- the same tokens before the same next one are read alike
 pub record LocalOk {A : Type 0} (p : Parser A) (i j : Input) (x : A) : Type 0 where
@@ -59,7 +57,6 @@ abbrev pub followed : {A B : Type 0} → Parser A → (A → Parser B) → Parse
 followed p f i = elim (p i) [ Ok r ↦ f r.0 r.1 | Err e ↦ Err e ]
 
 module _ {A B : Type 0} (p : Parser A) (f : A → Parser B) (first : Local p) (second : (x : A) → Local (f x)) where
-
   then_ok : (i : Input) (y : B) (j : Input) → followed p f i ≡ Ok (y, j) → LocalOk (followed p f) i j y
   then_ok i y j h =
       let b = bind_ok (p i) _ _ h in
@@ -69,11 +66,12 @@ module _ {A B : Type 0} (p : Parser A) (f : A → Parser B) (first : Local p) (s
         nodes = a.nodes + c.nodes;
         text = a.text ++ c.text;
         way = way_then a.way c.way;
-        again = λ l s. ap (followed p f) (behind_both a.text c.text a.nodes c.nodes l refl refl) ∙ ok_then _ (a.again (behind c.text c.nodes l) (ahead_again l c.way s)) (c.again l s) }
+        again = λ l s. ap (followed p f) (behind_both a.text c.text a.nodes c.nodes l refl refl) ∙ ok_then _ (a.again (behind c.text c.nodes l) (ahead_again l c.way s)) (c.again l s);
+      }
 
   then_err : (i : Input) (e : DocFault) → followed p f i ≡ Err e → LocalErr (followed p f) i e
   then_err i e h = elim (bind_err (p i) _ _ h) [
-      before g ↦ (let a = first.err i e g in record { nodes = a.nodes; text = a.text; at = a.at; way = a.way; place = a.place; again = λ l s. err_then _ (a.again l s) })
+    | before g ↦ (let a = first.err i e g in record { nodes = a.nodes; text = a.text; at = a.at; way = a.way; place = a.place; again = λ l s. err_then _ (a.again l s) })
     | onward x k g h2 ↦ (
         let a = first.ok i x k g in
         let c = (second x).err k e h2 in
@@ -83,7 +81,9 @@ module _ {A B : Type 0} (p : Parser A) (f : A → Parser B) (first : Local p) (s
           at = c.at;
           way = way_then a.way c.way;
           place = c.place;
-          again = λ l s. ap (followed p f) (behind_both a.text c.text a.nodes c.nodes l refl refl) ∙ ok_then _ (a.again (behind c.text c.nodes l) ((like_again l c.way s).ahead)) (c.again l s) }) ]
+          again = λ l s. ap (followed p f) (behind_both a.text c.text a.nodes c.nodes l refl refl) ∙ ok_then _ (a.again (behind c.text c.nodes l) ((like_again l c.way s).ahead)) (c.again l s);
+        })
+  ]
 
 pub local_followed : {A B : Type 0} {p : Parser A} {f : A → Parser B} → Local p → ((x : A) → Local (f x)) → Local (followed p f)
 local_followed {p = p} {f = f} first second = record { ok = then_ok p f first second; err = then_err p f first second }
@@ -94,16 +94,17 @@ abbrev pub branch : {A : Type 0} → (Option Token → Bool) → Parser A → Pa
 branch test p q i = if test (ahead i) then p i else q i
 
 module _ {A : Type 0} (test : Option Token → Bool) (p q : Parser A) (if_so : Local p) (not_so : Local q) where
-
   branch_ok : (i : Input) (x : A) (j : Input) → branch test p q i ≡ Ok (x, j) → LocalOk (branch test p q) i j x
   branch_ok i x j h = elim (if_ok (test (ahead i)) _ _ _ h) [
-      inl a ↦ (let c = if_so.ok i x j a.1 in record { nodes = c.nodes; text = c.text; way = c.way; again = λ l s. if_true _ _ (ap test (ahead_again l c.way s) ∙ a.0) (c.again l s) })
-    | inr a ↦ (let c = not_so.ok i x j a.1 in record { nodes = c.nodes; text = c.text; way = c.way; again = λ l s. if_false _ _ (ap test (ahead_again l c.way s) ∙ a.0) (c.again l s) }) ]
+    | inl a ↦ (let c = if_so.ok i x j a.1 in record { nodes = c.nodes; text = c.text; way = c.way; again = λ l s. if_true _ _ (ap test (ahead_again l c.way s) ∙ a.0) (c.again l s) })
+    | inr a ↦ (let c = not_so.ok i x j a.1 in record { nodes = c.nodes; text = c.text; way = c.way; again = λ l s. if_false _ _ (ap test (ahead_again l c.way s) ∙ a.0) (c.again l s) })
+  ]
 
   branch_err : (i : Input) (e : DocFault) → branch test p q i ≡ Err e → LocalErr (branch test p q) i e
   branch_err i e h = elim (if_ok (test (ahead i)) _ _ _ h) [
-      inl a ↦ (let c = if_so.err i e a.1 in record { nodes = c.nodes; text = c.text; at = c.at; way = c.way; place = c.place; again = λ l s. if_true _ _ (ap test (ahead_again l c.way s.ahead) ∙ a.0) (c.again l s) })
-    | inr a ↦ (let c = not_so.err i e a.1 in record { nodes = c.nodes; text = c.text; at = c.at; way = c.way; place = c.place; again = λ l s. if_false _ _ (ap test (ahead_again l c.way s.ahead) ∙ a.0) (c.again l s) }) ]
+    | inl a ↦ (let c = if_so.err i e a.1 in record { nodes = c.nodes; text = c.text; at = c.at; way = c.way; place = c.place; again = λ l s. if_true _ _ (ap test (ahead_again l c.way s.ahead) ∙ a.0) (c.again l s) })
+    | inr a ↦ (let c = not_so.err i e a.1 in record { nodes = c.nodes; text = c.text; at = c.at; way = c.way; place = c.place; again = λ l s. if_false _ _ (ap test (ahead_again l c.way s.ahead) ∙ a.0) (c.again l s) })
+  ]
 
 pub local_branch : {A : Type 0} (test : Option Token → Bool) {p q : Parser A} → Local p → Local q → Local (branch test p q)
 local_branch test {p = p} {q = q} if_so not_so = record { ok = branch_ok test p q if_so not_so; err = branch_err test p q if_so not_so }
@@ -120,16 +121,17 @@ chosen_in (Some w) f z y h = chosen w refl h
 chosen_in None f z y h = not_chosen refl h
 
 module _ {A B : Type 0} (table : Option Token → Option B) (p : B → Parser A) (q : Parser A) (if_so : (y : B) → Local (p y)) (not_so : Local q) where
-
   choose_ok : (i : Input) (x : A) (j : Input) → choose table p q i ≡ Ok (x, j) → LocalOk (choose table p q) i j x
   choose_ok i x j h = elim (chosen_in (table (ahead i)) _ _ _ h) [
-      chosen w e g ↦ (let c = (if_so w).ok i x j g in record { nodes = c.nodes; text = c.text; way = c.way; again = λ l s. found _ _ (ap table (ahead_again l c.way s) ∙ e) (c.again l s) })
-    | not_chosen e g ↦ (let c = not_so.ok i x j g in record { nodes = c.nodes; text = c.text; way = c.way; again = λ l s. missing _ _ (ap table (ahead_again l c.way s) ∙ e) (c.again l s) }) ]
+    | chosen w e g ↦ (let c = (if_so w).ok i x j g in record { nodes = c.nodes; text = c.text; way = c.way; again = λ l s. found _ _ (ap table (ahead_again l c.way s) ∙ e) (c.again l s) })
+    | not_chosen e g ↦ (let c = not_so.ok i x j g in record { nodes = c.nodes; text = c.text; way = c.way; again = λ l s. missing _ _ (ap table (ahead_again l c.way s) ∙ e) (c.again l s) })
+  ]
 
   choose_err : (i : Input) (e : DocFault) → choose table p q i ≡ Err e → LocalErr (choose table p q) i e
   choose_err i e h = elim (chosen_in (table (ahead i)) _ _ _ h) [
-      chosen w o g ↦ (let c = (if_so w).err i e g in record { nodes = c.nodes; text = c.text; at = c.at; way = c.way; place = c.place; again = λ l s. found _ _ (ap table (ahead_again l c.way s.ahead) ∙ o) (c.again l s) })
-    | not_chosen o g ↦ (let c = not_so.err i e g in record { nodes = c.nodes; text = c.text; at = c.at; way = c.way; place = c.place; again = λ l s. missing _ _ (ap table (ahead_again l c.way s.ahead) ∙ o) (c.again l s) }) ]
+    | chosen w o g ↦ (let c = (if_so w).err i e g in record { nodes = c.nodes; text = c.text; at = c.at; way = c.way; place = c.place; again = λ l s. found _ _ (ap table (ahead_again l c.way s.ahead) ∙ o) (c.again l s) })
+    | not_chosen o g ↦ (let c = not_so.err i e g in record { nodes = c.nodes; text = c.text; at = c.at; way = c.way; place = c.place; again = λ l s. missing _ _ (ap table (ahead_again l c.way s.ahead) ∙ o) (c.again l s) })
+  ]
 
 pub local_choose : {A B : Type 0} (table : Option Token → Option B) {p : B → Parser A} {q : Parser A} → ((y : B) → Local (p y)) → Local q → Local (choose table p q)
 local_choose table {p = p} {q = q} if_so not_so = record { ok = choose_ok table p q if_so not_so; err = choose_err table p q if_so not_so }

@@ -1,21 +1,21 @@
 -- What is read as an expression, and its first fault, depend on the tokens up to there alone, level by level.
-use Rattle.std.proofs.Common.{◌≡◌, ℕ, zero, suc, ◌+◌, ◌<◌, ◌||◌, Bool, true, false, is_some, List, [], ◌∷◌, ◌++◌, length, Option, Some, None, Result, Ok, Err, inl, inr, refl, sym, ap, subst, ◌∙◌, arith}
+use Rattle.std.proofs.Common.{◌≡◌, ℕ, zero, suc, ◌<◌, true, List, [], ◌∷◌, ◌++◌, length, Option, Some, None, Result, Ok, Err, inl, inr, refl, sym, subst}
 use Rattle.qml_ast.specs.declared.expr.BinOp.{BinOp}
 use Rattle.qml_ast.specs.declared.expr.Expr.{Expr}
 use Rattle.qml_ast.specs.declared.expr.Expr.TheVariants.{Member, Call, Unary, Binary, And, Or, Cond}
 use Rattle.qml_ast.specs.declared.expr.UnOp.{UnOp}
 use Rattle.qml_ast.specs.declared.fault.DocFault.{DocFault}
 use Rattle.qml_grammar.specs.Expressions.{Inner, parens, atom, primary, member, argument, some_arguments, arguments, call, begins_postfix, postfix, postfixes, operated, unary_in, joined, begins_operator, operator, chain, products, sums, orders, equalities, conjunctions, disjunctions, branches, conditional, expr_in, inner, expr}
-use Rattle.qml_grammar.specs.Inputs.{Input, Parser, ahead, after, refusal, operand_refusal, take_token, take_node, expect, any_name, while_next}
-use Rattle.qml_grammar.specs.Lexemes.{Token, head, tail, is_mark, atom_of, looked_up, unary_operator, product_operator, sum_operator, order_operator, equality_operator}
+use Rattle.qml_grammar.specs.Inputs.{Input, Parser, ahead, refusal, take_node, while_next}
+use Rattle.qml_grammar.specs.Lexemes.{Token, tail, is_mark, atom_of, looked_up, unary_operator, product_operator, sum_operator, order_operator, equality_operator}
 use Rattle.qml_grammar.specs.declared.mark.Mark.{Mark}
 use Rattle.qml_grammar.specs.declared.mark.Mark.TheVariants.{OpenParen, CloseParen, Colon, Comma, Dot, Question, DoubleAmpersand, DoubleBar}
 use Rattle.grammar_laws.specs.Laws.{Way}
 use Rattle.grammar_laws.proofs.Growing.{shorter}
-use Rattle.grammar_laws.proofs.Local.{LocalOk, LocalErr, Local, local_followed, local_branch, local_choose}
+use Rattle.grammar_laws.proofs.Local.{Local, local_followed, local_branch, local_choose}
 use Rattle.grammar_laws.proofs.LocalLoops.{local_while}
 use Rattle.grammar_laws.proofs.LocalTokens.{local_refused, local_operand_refused, local_too_deep, local_pure, local_after, local_token, local_expect, local_name, local_node}
-use Rattle.grammar_laws.proofs.Tools.{bind_ok, way_then, way_token, way_node, Ahead, ahead_some, if_ok, same_input}
+use Rattle.grammar_laws.proofs.Tools.{bind_ok, way_then, way_token, way_node, ahead_some, if_ok, same_input}
 
 -- the readings one level further in are local
 pub record LocalInside (v : Inner) : Type 0 where
@@ -41,7 +41,6 @@ joined_shorter make operand x read i y j o rest h =
     first_shorter (local_followed read (λ z. local_pure (make x z))) (way_node i b.at b.value o rest b.first) y j b.onward
 
 module _ (table : Mark → Option BinOp) (operand : Parser Expr) (read : Local operand) where
-
   operator_local : (x : Expr) → Local (operator table operand x)
   unfolding operator
   operator_local x = local_choose (looked_up table) (λ op. joined_local (Binary op) operand x read) local_refused
@@ -68,7 +67,6 @@ unfolding atom
 atom_local = local_choose atom_of (λ x. local_followed local_node (λ u. local_pure x)) local_operand_refused
 
 module _ (v : Inner) (inside : LocalInside v) where
-
   parens_local : Local (parens v)
   unfolding parens
   parens_local = local_followed inside.enter (λ u. local_followed local_token (λ w. local_followed inside.expr (λ x. local_followed (local_expect CloseParen) (λ z. local_pure x))))
@@ -185,7 +183,8 @@ inner_local (suc d) = record {
   enter = local_pure tt;
   stays = λ i u j h. same_input tt u i j h;
   expr = expr_in_local (inner d) (inner_local d);
-  unary = unary_local (inner d) (inner_local d) }
+  unary = unary_local (inner d) (inner_local d);
+}
 
 pub expr_local : (d : ℕ) → Local (expr d)
 unfolding expr

@@ -1,12 +1,12 @@
 -- A loop of local readings, each of which takes a token or more, is local.
-use Rattle.std.proofs.Common.{◌≡◌, ℕ, zero, suc, ◌+◌, ◌≤◌, ◌<◌, Bool, true, false, List, [], ◌∷◌, ◌++◌, length, Option, Some, None, Result, Ok, Err, refl, sym, ap, ap₂, subst, ◌∙◌, arith, length-append}
+use Rattle.std.proofs.Common.{◌≡◌, ℕ, zero, suc, ◌+◌, ◌≤◌, ◌<◌, Bool, true, false, List, [], ◌++◌, length, Option, None, Result, Ok, Err, refl, sym, ap, subst, ◌∙◌, arith, length-append}
 use Rattle.qml_ast.specs.declared.fault.DocFault.{DocFault}
 use Rattle.qml_grammar.specs.Inputs.{Input, Parser, ahead, place, repeated, while_next}
-use Rattle.qml_grammar.specs.Lexemes.{Token, head}
+use Rattle.qml_grammar.specs.Lexemes.{Token}
 use Rattle.grammar_laws.specs.Faults.{IsFaultAt, IsLike}
 use Rattle.grammar_laws.specs.Laws.{Way}
-use Rattle.grammar_laws.proofs.Behind.{behind, behind_both, last_behind, way_behind, passed, again, stopped}
-use Rattle.grammar_laws.proofs.Growing.{Went, stopped as ended, went, went_on, no_token}
+use Rattle.grammar_laws.proofs.Behind.{behind, behind_both, last_behind, passed, again, stopped}
+use Rattle.grammar_laws.proofs.Growing.{stopped as ended, went, went_on, no_token}
 use Rattle.grammar_laws.proofs.Local.{LocalOk, LocalErr, Local, ahead_again, err_then}
 use Rattle.grammar_laws.proofs.Tools.{way_none, way_then, same_value, same_input}
 
@@ -47,7 +47,6 @@ some_text : {i k : Input} {n : ℕ} {ts : List Token} → Way i k n ts → lengt
 some_text {k = k} {ts = ts} w h = omega (arith, ap length w.rest, length-append ts k.rest)
 
 module _ {A : Type 0} (test : Option Token → Bool) (step : A → Parser A) (none : test None ≡ false) (local : (x : A) → Local (step x)) (shorter : (x : A) (i : Input) (y : A) (j : Input) → test (ahead i) ≡ true → step x i ≡ Ok (y, j) → length j.rest < length i.rest) where
-
   -- a step is read anew, and what follows it with less fuel
   step_anew : (x z : A) (n : ℕ) (us vs : List Token) (k m : ℕ) (l : Input) (r : Result (A × Input) DocFault) → test (ahead (behind us k (behind vs m l))) ≡ true → step x (behind us k (behind vs m l)) ≡ Ok (z, behind vs m l) → 1 ≤ length us → length ((us ++ vs) ++ l.rest) ≤ n → ((f : ℕ) → length (vs ++ l.rest) ≤ f → repeated test step f z (behind vs m l) ≡ r) → repeated test step n x (behind (us ++ vs) (k + m) l) ≡ r
   step_anew x z zero us vs k m l r t h some few rest = absurd (omega (arith, length-append (us ++ vs) l.rest, length-append us vs))
@@ -61,13 +60,14 @@ module _ {A : Type 0} (test : Option Token → Bool) (step : A → Parser A) (no
         nodes = 0;
         text = [];
         way = subst (λ k. Way i k 0 []) e (way_none i);
-        anew = λ l n few s. ap (repeated test step n x) (last_behind l) ∙ (stopped (λ k. step x k) test step n x l (ap test (s ∙ ap ahead (sym e)) ∙ t) ∙ ap (λ z. Ok (z, l)) (same_value x y i j h)) }
+        anew = λ l n few s. ap (repeated test step n x) (last_behind l) ∙ (stopped (λ k. step x k) test step n x l (ap test (s ∙ ap ahead (sym e)) ∙ t) ∙ ap (λ z. Ok (z, l)) (same_value x y i j h));
+      }
 
   loop_ok : (n : ℕ) (x : A) (i : Input) (y : A) (j : Input) → length i.rest ≤ n → repeated test step n x i ≡ Ok (y, j) → LoopOk test step x i j y
   unfolding repeated
   loop_ok zero x i y j few h = loop_stops x y i j (ap test (no_token i.rest few) ∙ none) h
   loop_ok (suc n) x i y j few h = elim (went_on test step n x i y j h) [
-      ended t e ↦ loop_stops x y i j t e
+    | ended t e ↦ loop_stops x y i j t e
     | went z k t g g2 ↦ (
         let a = (local x).ok i z k g in
         let lt = shorter x i z k t g in
@@ -77,8 +77,10 @@ module _ {A : Type 0} (test : Option Token → Bool) (step : A → Parser A) (no
           text = a.text ++ c.text;
           way = way_then a.way c.way;
           anew = λ l m many s.
-            let same = ahead_again l c.way s in
-            step_anew x z m a.text c.text a.nodes c.nodes l (Ok (y, l)) (ap test (ahead_again (behind c.text c.nodes l) a.way same) ∙ t) (a.again (behind c.text c.nodes l) same) (some_text a.way lt) many (λ f enough. c.anew l f enough s) }) ]
+              let same = ahead_again l c.way s in
+              step_anew x z m a.text c.text a.nodes c.nodes l (Ok (y, l)) (ap test (ahead_again (behind c.text c.nodes l) a.way same) ∙ t) (a.again (behind c.text c.nodes l) same) (some_text a.way lt) many (λ f enough. c.anew l f enough s);
+        })
+  ]
 
   fail_anew : (x : A) (n : ℕ) (us : List Token) (k : ℕ) (l : Input) (e : DocFault) → test (ahead (behind us k l)) ≡ true → step x (behind us k l) ≡ Err e → length (us ++ l.rest) ≤ n → repeated test step n x (behind us k l) ≡ Err e
   unfolding repeated
@@ -89,7 +91,7 @@ module _ {A : Type 0} (test : Option Token → Bool) (step : A → Parser A) (no
   unfolding repeated
   loop_err zero x i e few h = absurd cc
   loop_err (suc n) x i e few h = elim (stuck_on test step n x i e h) [
-      now t g ↦ (
+    | now t g ↦ (
         let a = (local x).err i e g in
         record {
           nodes = a.nodes;
@@ -97,7 +99,8 @@ module _ {A : Type 0} (test : Option Token → Bool) (step : A → Parser A) (no
           at = a.at;
           way = a.way;
           place = a.place;
-          anew = λ l m many s. fail_anew x m a.text a.nodes l e (ap test (ahead_again l a.way s.ahead) ∙ t) (a.again l s) many })
+          anew = λ l m many s. fail_anew x m a.text a.nodes l e (ap test (ahead_again l a.way s.ahead) ∙ t) (a.again l s) many;
+        })
     | later z k t g g2 ↦ (
         let a = (local x).ok i z k g in
         let lt = shorter x i z k t g in
@@ -109,8 +112,10 @@ module _ {A : Type 0} (test : Option Token → Bool) (step : A → Parser A) (no
           way = way_then a.way c.way;
           place = c.place;
           anew = λ l m many s.
-            let same = ahead_again l c.way s.ahead in
-            step_anew x z m a.text c.text a.nodes c.nodes l (Err e) (ap test (ahead_again (behind c.text c.nodes l) a.way same) ∙ t) (a.again (behind c.text c.nodes l) same) (some_text a.way lt) many (λ f enough. c.anew l f enough s) }) ]
+              let same = ahead_again l c.way s.ahead in
+              step_anew x z m a.text c.text a.nodes c.nodes l (Err e) (ap test (ahead_again (behind c.text c.nodes l) a.way same) ∙ t) (a.again (behind c.text c.nodes l) same) (some_text a.way lt) many (λ f enough. c.anew l f enough s);
+        })
+  ]
 
   while_ok : (x : A) (i : Input) (y : A) (j : Input) → while_next test step x i ≡ Ok (y, j) → LocalOk (while_next test step x) i j y
   unfolding while_next

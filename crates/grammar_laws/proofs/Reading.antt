@@ -1,7 +1,6 @@
 -- What is read is spelled, and what is spelled is read: the laws as they are told.
-use Rattle.std.proofs.Common.{◌≡◌, ℕ, ◌+◌, ◌-◌, ◌≤◌, false, ◌++◌, Result, Ok, Err, refl, sym, subst, ◌∙◌, ap, arith}
+use Rattle.std.proofs.Common.{◌≡◌, ℕ, ◌-◌, ◌≤◌, Ok, sym, subst, ◌∙◌, ap, arith}
 use Rattle.qml_ast.specs.declared.expr.Expr.{Expr}
-use Rattle.qml_ast.specs.declared.fault.DocFault.{DocFault}
 use Rattle.qml_grammar.specs.ExpressionGrammar.{IsExpr}
 use Rattle.qml_grammar.specs.Expressions.{expr, whole}
 use Rattle.qml_grammar.specs.Inputs.{Input, ahead}
@@ -19,7 +18,7 @@ expr_reads d i j x h =
     record { nodes = c.nodes; text = c.text; way = c.way; spelled = c.spelled; longest = stops_of (ahead j) c.stops }
 
 -- the input with as many nodes as an outermost expression may have
-abbrev full : Input → Input
+abbrev pub full : Input → Input
 full i = record { rest = i.rest; end = i.end; nodes = 200 }
 
 whole_from : (d : ℕ) (i k : Input) (x : Expr) → Covers (IsExpr d) 0 (full i) k x → ReadsWhole d i (record { rest = k.rest; end = k.end; nodes = i.nodes }) x
@@ -30,7 +29,9 @@ whole_from d i k x c = record {
     nodes = c.nodes;
     few = omega (arith, (c.way).used);
     spelled = c.spelled;
-    longest = stops_of (ahead k) c.stops } }
+    longest = stops_of (ahead k) c.stops;
+  };
+}
 
 pub whole_reads : (d : ℕ) (i j : Input) (x : Expr) → whole d i ≡ Ok (x, j) → ReadsWhole d i j x
 unfolding whole
@@ -55,3 +56,8 @@ reads_whole d i j x r =
     let read : expr d (full i) ≡ Ok (x, left) = ap (expr d) same ∙ expr_complete d p.nodes r.text x left p.spelled (strength_of (ahead j) p.longest) in
     let kept : i.nodes ≡ j.nodes = omega (arith, (r.way).used) in
     ok_then _ read (ap (λ n. Ok (x, record { rest = j.rest; end = j.end; nodes = n })) kept)
+
+pub reads_once : (d : ℕ) (i j k : Input) (x y : Expr) → Reads d i j x → Reads d i k y → (x ≡ y) × (j ≡ k)
+reads_once d i j k x y r s =
+    let e = sym (reads_expr d i j x r) ∙ reads_expr d i k y s in
+    (same_value x y j k e, same_input x y j k e)

@@ -1,22 +1,22 @@
 -- What is read as an expression is spelled by the productions, level by level.
-use Rattle.std.proofs.Common.{◌≡◌, ◌≢◌, ℕ, zero, suc, ◌+◌, ◌≤◌, ◌<◌, ◌||◌, Bool, true, false, if◌then◌else◌, is_some, List, [], ◌∷◌, ◌++◌, Option, Some, None, Result, Ok, Err, inl, inr, refl, sym, ap, subst, ◌∙◌, arith, append_assoc}
+use Rattle.std.proofs.Common.{◌≡◌, ◌≢◌, ℕ, zero, suc, ◌+◌, ◌≤◌, ◌||◌, Bool, true, false, List, [], ◌∷◌, ◌++◌, Option, Some, None, Result, Ok, Err, inl, inr, refl, sym, ap, subst, ◌∙◌, arith, append_assoc}
 use Rattle.std.proofs.lemmas.Bool.{eqb-false}
 use Rattle.qml_ast.specs.declared.expr.BinOp.{BinOp}
 use Rattle.qml_ast.specs.declared.expr.Expr.{Expr}
-use Rattle.qml_ast.specs.declared.expr.Expr.TheVariants.{Lit, Name, Member, Call, Unary, Binary, And, Or, Cond}
+use Rattle.qml_ast.specs.declared.expr.Expr.TheVariants.{Lit, Name, Call, Binary, And, Or}
 use Rattle.qml_ast.specs.declared.expr.UnOp.{UnOp}
 use Rattle.qml_ast.specs.declared.fault.DocFault.{DocFault}
 use Rattle.qml_ast.specs.declared.value.Value.{Value}
 use Rattle.qml_grammar.specs.ExpressionGrammar.{IsMark, IsOperator, IsPrimary, literal, name, parens as in_parens, IsPostfix, primary as a_primary, member as a_member, call_none, call as a_call, AreArguments, one_argument, more_arguments, IsUnary, operated as an_operated, postfix as a_postfix, IsProduct, unary as a_unary, times, IsSum, product, plus, IsOrder, sum, compare, IsEquality, order, equal, IsConjunction, equality, both, IsDisjunction, conjunction, either, IsExpr, disjunction, conditional as a_conditional}
 use Rattle.qml_grammar.specs.Expressions.{Inner, parens, atom, primary, member, argument, some_arguments, arguments, call, begins_postfix, postfix, postfixes, operated, unary_in, joined, begins_operator, operator, chain, products, sums, orders, equalities, conjunctions, disjunctions, branches, conditional, expr_in, inner, expr}
 use Rattle.qml_grammar.specs.Inputs.{Input, Parser, ahead, after, refusal, operand_refusal, take_node, expect, any_name, while_next}
-use Rattle.qml_grammar.specs.Lexemes.{Token, head, tail, is_mark, atom_of, value_of, operand_name_of, looked_up, unary_operator, product_operator, sum_operator, order_operator, equality_operator}
+use Rattle.qml_grammar.specs.Lexemes.{Token, tail, is_mark, atom_of, value_of, operand_name_of, looked_up, unary_operator, product_operator, sum_operator, order_operator, equality_operator}
 use Rattle.qml_grammar.specs.declared.mark.Mark.{Mark}
 use Rattle.qml_grammar.specs.declared.mark.Mark.TheVariants.{OpenParen, CloseParen, Colon, Comma, Dot, Question, DoubleAmpersand, DoubleBar}
 use Rattle.grammar_laws.specs.Laws.{Way}
-use Rattle.grammar_laws.proofs.Growing.{Covers, Adds, covers_to, adds_to, covers_then, Loops, while_covers}
+use Rattle.grammar_laws.proofs.Growing.{Covers, Adds, covers_to, adds_to, Loops, while_covers}
 use Rattle.grammar_laws.proofs.Strength.{strength, Tells, strength_most, tells_postfix, tells_product, tells_sum, tells_order, tells_equality, tells_conjunction, tells_disjunction, tells_question}
-use Rattle.grammar_laws.proofs.Tools.{bind_ok, way_none, way_then, counted, Ahead, ahead_some, ahead_gives, way_token, way_node, if_ok, Taken, expected, Named, named, same_input}
+use Rattle.grammar_laws.proofs.Tools.{bind_ok, way_then, counted, ahead_some, ahead_gives, way_token, way_node, if_ok, expected, named, same_input}
 
 -- a level was left
 pub record Entered (d : ℕ) (i j : Input) : Type 0 where
@@ -58,10 +58,10 @@ joined_adds make operand x i y j o rest sound join h =
       others = z.text;
       way = way_then (way_node i b.at b.value o rest b.first) z.way;
       spelled = λ k us p. join (k + (1 + z.nodes)) k z.nodes us z.text c.value (omega arith) p z.spelled;
-      stops = z.stops }) c.onward
+      stops = z.stops;
+    }) c.onward
 
 module _ (table : Mark → Option BinOp) (operand : Parser Expr) (level : ℕ) (tells : Tells (begins_operator table) (suc level)) (Operand Spells : ℕ → List Token → Expr → Type 0) (sound : (k : Input) (z : Expr) (l : Input) → operand k ≡ Ok (z, l) → Covers Operand (suc level) k l z) (one : (n : ℕ) (us : List Token) (x : Expr) → Operand n us x → Spells n us x) (more : (o : Token) (op : BinOp) (x : Expr) → IsOperator table o op → (m k n : ℕ) (us vs : List Token) (z : Expr) → m ≡ k + 1 + n → Spells k us x → Operand n vs z → Spells m (us ++ o ∷ vs) (Binary op x z)) where
-
   operator_from : (x : Expr) (i : Input) (y : Expr) (j : Input) (q : Option BinOp) → looked_up table (ahead i) ≡ q → ◌≡◌ {A = Result (Expr × Input) DocFault} (elim q [ Some op ↦ joined (Binary op) operand x i | None ↦ Err (refusal i) ]) (Ok (y, j)) → Adds Spells (suc level) x i j y
   operator_from x i y j None e h = absurd cc
   operator_from x i y j (Some op) e h =
@@ -81,7 +81,6 @@ module _ (table : Mark → Option BinOp) (operand : Parser Expr) (level : ℕ) (
 
 -- likewise for one mark between operands
 module _ (m : Mark) (make : Expr → Expr → Expr) (operand : Parser Expr) (level : ℕ) (tells : Tells (is_mark m) (suc level)) (Operand Spells : ℕ → List Token → Expr → Type 0) (sound : (k : Input) (z : Expr) (l : Input) → operand k ≡ Ok (z, l) → Covers Operand (suc level) k l z) (one : (n : ℕ) (us : List Token) (x : Expr) → Operand n us x → Spells n us x) (more : (o : Token) (x : Expr) → IsMark o m → (m k n : ℕ) (us vs : List Token) (z : Expr) → m ≡ k + 1 + n → Spells k us x → Operand n vs z → Spells m (us ++ o ∷ vs) (make x z)) where
-
   mark_adds : (x : Expr) (i : Input) (y : Expr) (j : Input) → is_mark m (ahead i) ≡ true → joined make operand x i ≡ Ok (y, j) → Adds Spells (suc level) x i j y
   mark_adds x i y j t h = let a = ahead_some (is_mark m) refl i t in joined_adds make operand x i y j a.token a.rest sound (more a.token x a.is) h
 
@@ -96,7 +95,6 @@ data InCall (c : ℕ) (n : ℕ) (ts : List Token) (xs : List Expr) : Type 0 wher
   given : (vs : List Token) (z : Token) → ts ≡ vs ++ z ∷ [] → AreArguments c n vs xs → IsMark z CloseParen → InCall c n ts xs
 
 module _ (d : ℕ) (v : Inner) (inside : SoundInside d v) where
-
   parens_cover : (i : Input) (x : Expr) (j : Input) → is_mark OpenParen (ahead i) ≡ true → parens v i ≡ Ok (x, j) → Covers (IsPrimary d) 8 i j x
   unfolding parens
   parens_cover i x j t h =
@@ -113,7 +111,8 @@ module _ (d : ℕ) (v : Inner) (inside : SoundInside d v) where
         text = o.token ∷ y.text ++ z.token ∷ [];
         way = counted (omega arith) (way_then begin (way_then y.way z.way));
         spelled = in_parens e.less o.token y.text z.token e.one_less refl o.is y.spelled z.is;
-        stops = strength_most (ahead c.at) }) c.onward
+        stops = strength_most (ahead c.at);
+      }) c.onward
 
   literal_or_name : (t : Token) (x : Expr) → atom_of (Some t) ≡ Some x → IsPrimary d 1 (t ∷ []) x
   literal_or_name t x h = by_value (value_of (Some t)) (operand_name_of (Some t)) refl refl h
@@ -133,7 +132,8 @@ module _ (d : ℕ) (v : Inner) (inside : SoundInside d v) where
         text = t.token ∷ [];
         way = way_node i b.at b.value t.token t.rest b.first;
         spelled = literal_or_name t.token y t.is;
-        stops = strength_most (ahead b.at) }) b.onward
+        stops = strength_most (ahead b.at);
+      }) b.onward
 
   atom_covers : (i : Input) (x : Expr) (j : Input) → atom i ≡ Ok (x, j) → Covers (IsPrimary d) 8 i j x
   unfolding atom
@@ -156,7 +156,8 @@ module _ (d : ℕ) (v : Inner) (inside : SoundInside d v) where
         others = n.token ∷ [];
         way = way_then (way_node i a.at a.value o.token o.rest a.first) n.way;
         spelled = λ k us p. a_member k us o.token n.token x b.value (omega arith) refl refl p o.is n.is;
-        stops = strength_most (ahead b.at) }) b.onward
+        stops = strength_most (ahead b.at);
+      }) b.onward
 
   argument_adds : (c : ℕ) → d ≡ suc c → (xs : List Expr) (i : Input) (ys : List Expr) (j : Input) → is_mark Comma (ahead i) ≡ true → argument v xs i ≡ Ok (ys, j) → Adds (AreArguments c) 0 xs i j ys
   unfolding argument
@@ -170,7 +171,8 @@ module _ (d : ℕ) (v : Inner) (inside : SoundInside d v) where
         others = y.text;
         way = counted (omega arith) (way_then (way_token o.token o.rest) y.way);
         spelled = λ k us p. more_arguments k y.nodes us o.token y.text xs b.value refl refl refl p o.is y.spelled;
-        stops = y.stops }) b.onward
+        stops = y.stops;
+      }) b.onward
 
   some_arguments_cover : (c : ℕ) → d ≡ suc c → (i : Input) (xs : List Expr) (j : Input) → some_arguments v i ≡ Ok (xs, j) → Covers (InCall c) 8 i j xs
   unfolding some_arguments
@@ -187,18 +189,21 @@ module _ (d : ℕ) (v : Inner) (inside : SoundInside d v) where
         text = ys.text ++ z.token ∷ [];
         way = counted (omega arith) (way_then ys.way z.way);
         spelled = given ys.text z.token refl ys.spelled z.is;
-        stops = strength_most (ahead g.at) }) g.onward
+        stops = strength_most (ahead g.at);
+      }) g.onward
 
   arguments_cover : (c : ℕ) → d ≡ suc c → (i : Input) (xs : List Expr) (j : Input) → arguments v i ≡ Ok (xs, j) → Covers (InCall c) 8 i j xs
   unfolding arguments
   arguments_cover c e i xs j h = elim (if_ok (is_mark CloseParen (ahead i)) _ _ _ h) [
-      inl a ↦ (let z = ahead_some (is_mark CloseParen) refl i a.0 in covers_to (record {
-        nodes = 0;
-        text = z.token ∷ [];
-        way = way_token z.token z.rest;
-        spelled = none_given z.token refl refl refl z.is;
-        stops = strength_most (ahead (after i)) }) a.1)
-    | inr a ↦ some_arguments_cover c e i xs j a.1 ]
+    | inl a ↦ (let z = ahead_some (is_mark CloseParen) refl i a.0 in covers_to (record {
+      nodes = 0;
+      text = z.token ∷ [];
+      way = way_token z.token z.rest;
+      spelled = none_given z.token refl refl refl z.is;
+      stops = strength_most (ahead (after i));
+    }) a.1)
+    | inr a ↦ some_arguments_cover c e i xs j a.1
+  ]
 
   called : (c : ℕ) → d ≡ suc c → (k : ℕ) (us : List Token) (o : Token) (x : Expr) → IsMark o OpenParen → IsPostfix d k us x → (n : ℕ) (ts : List Token) (xs : List Expr) → InCall c n ts xs → IsPostfix d (k + (1 + n)) (us ++ o ∷ ts) (Call x xs)
   called c e k us o x m p n ts xs (none_given z n_is ts_is xs_is close) = call_none c k us o z x e (omega arith) (ap (λ ws. us ++ o ∷ ws) ts_is) (ap (λ ys. Call x ys) xs_is) p m close
@@ -220,13 +225,15 @@ module _ (d : ℕ) (v : Inner) (inside : SoundInside d v) where
         others = xs.text;
         way = way_then begin xs.way;
         spelled = λ k us p. called e.less e.one_less k us o.token x o.is p xs.nodes xs.text c.value xs.spelled;
-        stops = strength_most (ahead c.at) }) c.onward
+        stops = strength_most (ahead c.at);
+      }) c.onward
 
   postfix_adds : (x : Expr) (i : Input) (y : Expr) (j : Input) → begins_postfix (ahead i) ≡ true → postfix v x i ≡ Ok (y, j) → Adds (IsPostfix d) 8 x i j y
   unfolding postfix
   postfix_adds x i y j t h = elim (if_ok (is_mark Dot (ahead i)) _ _ _ h) [
-      inl a ↦ member_adds x i y j a.0 a.1
-    | inr a ↦ call_adds x i y j (or_else t a.0) a.1 ]
+    | inl a ↦ member_adds x i y j a.0 a.1
+    | inr a ↦ call_adds x i y j (or_else t a.0) a.1
+  ]
 
   postfixes_cover : (i : Input) (x : Expr) (j : Input) → postfixes v i ≡ Ok (x, j) → Covers (IsPostfix d) 7 i j x
   unfolding postfixes
@@ -250,7 +257,8 @@ module _ (d : ℕ) (v : Inner) (inside : SoundInside d v) where
         text = o.token ∷ y.text;
         way = way_then begin y.way;
         spelled = an_operated e.less y.nodes o.token y.text op c.value e.one_less refl refl refl o.is y.spelled;
-        stops = y.stops }) c.onward
+        stops = y.stops;
+      }) c.onward
 
   unary_from : (i : Input) (x : Expr) (j : Input) (q : Option UnOp) → looked_up unary_operator (ahead i) ≡ q → ◌≡◌ {A = Result (Expr × Input) DocFault} (elim q [ Some op ↦ operated v op i | None ↦ postfixes v i ]) (Ok (x, j)) → Covers (IsUnary d) 7 i j x
   unary_from i x j None e h = lifted (λ n us z p. a_postfix p) (postfixes_cover i x j h)
@@ -307,18 +315,21 @@ module _ (d : ℕ) (v : Inner) (inside : SoundInside d v) where
         text = w.text ++ q.token ∷ y.text ++ p.token ∷ z.text;
         way = counted (omega arith) (way_then (way_then w.way (way_then begin y.way)) (way_then p.way z.way));
         spelled = a_conditional e.less w.nodes y.nodes z.nodes w.text q.token y.text p.token z.text x c.value g.value e.one_less refl refl refl w.spelled q.is y.spelled p.is z.spelled;
-        stops = z.stops }) g.onward
+        stops = z.stops;
+      }) g.onward
 
   conditional_covers : (o i : Input) (x : Expr) (y : Expr) (j : Input) → Covers (IsDisjunction d) 1 o i x → conditional v x i ≡ Ok (y, j) → Covers (IsExpr d) 0 o j y
   unfolding conditional
   conditional_covers o i x y j w h = elim (if_ok (is_mark Question (ahead i)) _ _ _ h) [
-      inl a ↦ branches_cover o i x y j a.0 w a.1
+    | inl a ↦ branches_cover o i x y j a.0 w a.1
     | inr a ↦ covers_to (record {
-        nodes = w.nodes;
-        text = w.text;
-        way = w.way;
-        spelled = disjunction w.spelled;
-        stops = below (ahead i) 0 tells_question a.0 w.stops }) a.1 ]
+      nodes = w.nodes;
+      text = w.text;
+      way = w.way;
+      spelled = disjunction w.spelled;
+      stops = below (ahead i) 0 tells_question a.0 w.stops;
+    }) a.1
+  ]
 
   expr_covers : (i : Input) (x : Expr) (j : Input) → expr_in v i ≡ Ok (x, j) → Covers (IsExpr d) 0 i j x
   unfolding expr_in
@@ -342,11 +353,13 @@ unfolding inner
 sound zero = record {
   enter = λ i u j h. absurd cc;
   expr = λ c e i x j h. absurd (no_level c e);
-  unary = λ c e i x j h. absurd (no_level c e) }
+  unary = λ c e i x j h. absurd (no_level c e);
+}
 sound (suc d) = record {
   enter = λ i u j h. enter_same d i u j h;
   expr = λ c e i x j h. subst (λ n. Covers (IsExpr n) 0 i j x) (one_level c d e) (expr_covers d (inner d) (sound d) i x j h);
-  unary = λ c e i x j h. subst (λ n. Covers (IsUnary n) 7 i j x) (one_level c d e) (unary_covers d (inner d) (sound d) i x j h) }
+  unary = λ c e i x j h. subst (λ n. Covers (IsUnary n) 7 i j x) (one_level c d e) (unary_covers d (inner d) (sound d) i x j h);
+}
 
 pub expr_sound : (d : ℕ) (i : Input) (x : Expr) (j : Input) → expr d i ≡ Ok (x, j) → Covers (IsExpr d) 0 i j x
 unfolding expr

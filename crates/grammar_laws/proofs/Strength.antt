@@ -1,13 +1,13 @@
 -- How tightly a token binds what stands before it, as a number: the tests of the single levels and those on
 -- whole expressions are comparisons of it.
-use Rattle.std.proofs.Common.{◌≡◌, ℕ, ◌≤◌, ◌==◌, ◌||◌, not, Bool, true, false, is_some, Option, Some, None, refl, sym, ap, ◌∙◌, arith}
+use Rattle.std.proofs.Common.{◌≡◌, ℕ, ◌≤◌, ◌==◌, ◌||◌, not, Bool, false, is_some, Option, Some, None, refl, sym, ap, ◌∙◌, arith}
 use Rattle.std.proofs.lemmas.Bool.Decides.{nat_tests}
 use Rattle.qml_ast.specs.declared.span.Span.{Span}
 use Rattle.qml_grammar.specs.Expressions.{begins_postfix, begins_operator}
-use Rattle.qml_grammar.specs.Lexemes.{Lexeme, plain, word, integer, decimal, text, mark, Token, is_mark, is_mark_lexeme, looked_up, product_operator, sum_operator, order_operator, equality_operator}
+use Rattle.qml_grammar.specs.Lexemes.{Lexeme, mark, Token, is_mark, is_mark_lexeme, product_operator, sum_operator, order_operator, equality_operator}
 use Rattle.qml_grammar.specs.Marks.{same_mark, mark_number}
 use Rattle.qml_grammar.specs.declared.mark.Mark.{Mark}
-use Rattle.qml_grammar.specs.declared.mark.Mark.TheVariants.{OpenBrace, OpenParen, Comma, Colon, Dot, Question, Plus, Minus, Star, Slash, Percent, Less, Greater, LessEqual, GreaterEqual, EqualEqual, BangEqual, TripleEqual, BangDoubleEqual, DoubleAmpersand, DoubleBar}
+use Rattle.qml_grammar.specs.declared.mark.Mark.TheVariants.{OpenBrace, OpenParen, Dot, Question, Plus, Minus, Star, Slash, Percent, Less, Greater, LessEqual, GreaterEqual, EqualEqual, BangEqual, TripleEqual, BangDoubleEqual, DoubleAmpersand, DoubleBar}
 use Rattle.qml_grammar.specs.StatementGrammar.{goes_on}
 
 abbrev pub mark_strength : Mark → ℕ
@@ -55,7 +55,6 @@ lexeme_tells_postfix _ = refl
 pub tells_postfix : Tells begins_postfix 8
 tells_postfix None = refl
 tells_postfix (Some t) = lexeme_tells_postfix t.lexeme
-
 
 mark_tells_product : (m : Mark) → is_some (product_operator m) ≡ (mark_strength m == 7)
 mark_tells_product OpenBrace = refl
@@ -155,7 +154,6 @@ lexeme_strength_most _ = omega arith
 pub strength_most : (t : Option Token) → strength t ≤ 8
 strength_most None = omega arith
 strength_most (Some t) = lexeme_strength_most t.lexeme
-
 
 -- Whole expressions
 

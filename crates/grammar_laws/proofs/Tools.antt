@@ -1,11 +1,10 @@
 -- Steps of readings, and the ways between inputs.
-use Rattle.std.proofs.Common.{◌≡◌, ℕ, zero, suc, ◌+◌, ◌≤◌, ◌<◌, ◌==◌, ◌||◌, ◌⊎◌, inl, inr, Bool, true, false, if◌then◌else◌, List, [], ◌∷◌, ◌++◌, length, Option, Some, None, Result, Ok, Err, refl, sym, ap, subst₂, ◌∙◌, arith, append_assoc, length-append, eqb-true, zero-add, subst}
+use Rattle.std.proofs.Common.{◌≡◌, ℕ, zero, suc, ◌+◌, ◌⊎◌, inl, inr, Bool, true, false, if◌then◌else◌, List, [], ◌∷◌, ◌++◌, Option, Some, None, Result, Ok, Err, refl, sym, ap, ◌∙◌, arith, append_assoc, zero-add, subst}
 use Rattle.qml_ast.specs.declared.fault.DocFault.{DocFault}
-use Rattle.qml_grammar.specs.Inputs.{Input, Parser, ahead, after, refusal, take_node, expect, any_name}
+use Rattle.qml_grammar.specs.Inputs.{Input, ahead, after, refusal, take_node, expect, any_name}
 use Rattle.qml_grammar.specs.Lexemes.{Token, head, tail, is_mark, name_of}
 use Rattle.qml_grammar.specs.declared.mark.Mark.{Mark}
 use Rattle.grammar_laws.specs.Laws.{Way}
-use Rattle.grammar_laws.proofs.Strength.{strength}
 
 -- What was read before what is read
 
@@ -87,8 +86,9 @@ expected_of m i j u a h =
 
 pub expected : (m : Mark) (i j : Input) (u : Unit {0}) → expect m i ≡ Ok (u, j) → Taken (is_mark m) i j
 expected m i j u h = elim (if_ok (is_mark m (ahead i)) _ _ _ h) [
-    inl a ↦ expected_of m i j u a.0 a.1
-  | inr a ↦ absurd (let e = a.1 in cc) ]
+  | inl a ↦ expected_of m i j u a.0 a.1
+  | inr a ↦ absurd (let e = a.1 in cc)
+]
 
 -- a name that was taken
 pub record Named (n : List ℕ) (i j : Input) : Type 0 where

@@ -1,5 +1,5 @@
 -- What it means that what is read is spelled, and that what is spelled is read.
-use Rattle.std.specs.Prelude.{◌≡◌, ℕ, ◌+◌, ◌≤◌, false, List, ◌++◌}
+use Rattle.std.specs.Prelude.{◌≡◌, ℕ, ◌+◌, false, List, ◌++◌}
 use Rattle.qml_ast.specs.declared.expr.Expr.{Expr}
 use Rattle.qml_grammar.specs.ExpressionGrammar.{IsExpr}
 use Rattle.qml_grammar.specs.Inputs.{Input, ahead}
