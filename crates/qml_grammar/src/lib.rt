@@ -3,6 +3,7 @@
 //! of tokens, and cite what the list spells and where its first fault stands.
 #![tactic(auto)]
 
+pub mod cases;
 pub mod mark;
 pub mod word;
 
