@@ -3,7 +3,7 @@ use Rattle.std.proofs.Common.{◌≡◌, ℕ, Bool, List, map, Option, Some, Non
 use Rattle.std.specs.Prelude.{option_map}
 use Rattle.qml_ast.specs.declared.decl.Decl.{Decl, roll-Decl, fold-roll-Decl}
 use Rattle.qml_ast.specs.declared.decl.Init.{Init, fold-roll-Init}
-use Rattle.qml_ast.specs.declared.decl.Init.TheOpen.{Init-F, Member-F, Decl-F}
+use Rattle.qml_ast.specs.declared.decl.Init.TheOpen.{Init-F, Member-F}
 use Rattle.qml_ast.specs.declared.decl.Init.TheVariants as ii
 use Rattle.qml_ast.specs.declared.decl.Member.{Member, fold-roll-Member}
 use Rattle.qml_ast.specs.declared.decl.Member.TheVariants as mm

@@ -1,5 +1,5 @@
 -- The canonical texts of the worked cases, computed.
-use Rattle.std.proofs.Common.{◌≡◌, List, [], ◌∷◌, codes, refl}
+use Rattle.std.proofs.Common.{◌≡◌, codes, refl}
 use Rattle.qml_grammar.specs.PrintCases.{canonical_expr, ArePrinted, EscapeCase, expr_prints, IfCase, WhileCase, EmptyForCase, ForCase, BlockForCase, ElseIfCase, BlockCase, EmptyObjectCase, InitialiserCase, PropertyCase, SignalCase, MethodCase, ObjectCase, HandlerCase}
 use Rattle.qml_grammar.proofs.LinedForms.{lined-Local, lined-Assign, lined-Step, lined-Do, lined-Block, lined-Empty, lined-If, lined-While, lined-For, lined-Return, bare-Local, bare-Assign, bare-Step}
 use Rattle.qml_grammar.proofs.MemberForms.{init-Expr-lined, init-Object-lined, decl-roll-lined, member-Id-lined, member-Property-lined, member-Signal-lined, member-Init-lined, member-Handler-lined, member-Method-lined, member-Child-lined}

@@ -1,6 +1,6 @@
 -- The canonical text of statements and documents, as bytes. What stands on several lines takes the number of
 -- levels by which its lines are indented.
-use Rattle.std.specs.Prelude.{ℕ, suc, ◌*◌, Bool, true, false, if◌then◌else◌, List, [], ◌∷◌, ◌++◌, replicate, flat_map, map, Option, Some, None, codes, decimal}
+use Rattle.std.specs.Prelude.{ℕ, suc, ◌*◌, if◌then◌else◌, List, [], ◌∷◌, ◌++◌, replicate, flat_map, map, Option, Some, None, codes, decimal}
 use Rattle.qml_ast.specs.declared.decl.Decl.{Decl, fold-Decl}
 use Rattle.qml_ast.specs.declared.decl.Init.{Init, fold-Init}
 use Rattle.qml_ast.specs.declared.decl.Init.TheOpen.{Init-F, Member-F, Decl-F}

@@ -1,5 +1,5 @@
 -- Short parts of documents with their canonical texts.
-use Rattle.std.specs.Prelude.{◌≡◌, ℕ, true, false, List, [], ◌∷◌, ◌++◌, Some, None, Result, Ok, Err, codes}
+use Rattle.std.specs.Prelude.{◌≡◌, ℕ, true, false, List, [], ◌∷◌, ◌++◌, Some, None, Ok, Err, codes}
 use Rattle.qml_ast.specs.declared.decl.Decl.{roll-Decl}
 use Rattle.qml_ast.specs.declared.decl.Init.TheVariants as ii
 use Rattle.qml_ast.specs.declared.decl.Member.TheVariants as mm

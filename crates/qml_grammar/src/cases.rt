@@ -16,8 +16,7 @@ pub fn first_faults()
     ensures text_end { AreAnswered end_cases }
     ensures levels { AreAnswered level_cases }
     ensures nodes { AreAnswered node_cases }
-{
-}
+{}
 
 /// Short documents declare what they should, with the places that they should have: a law with nothing to
 /// run. The documents stand in specs/TreeCases.antt.
@@ -27,8 +26,7 @@ pub fn declarations()
     ensures members { MembersCase }
     ensures statements { StatementsCase }
     ensures imports { ImportsCase }
-{
-}
+{}
 
 /// Short expressions, statements and declarations have the canonical texts that they should have: a law
 /// with nothing to run. They stand in specs/PrintCases.antt.
@@ -49,5 +47,4 @@ pub fn canonical_texts()
     ensures method_text { MethodCase }
     ensures object_text { ObjectCase }
     ensures handler_text { HandlerCase }
-{
-}
+{}
