@@ -132,6 +132,27 @@ impl Expr {
     }
 }
 
+/// An equal expression, where there is one.
+pub(crate) fn copy_optional(expr: &Option<Expr>, alloc: Global) -> Result<Option<Expr>, AllocError>
+    ensures { IfOk result (λ copied. copied ≡ expr.now) }
+{
+    match expr {
+        Some(expr) => Ok(Some(expr.copy(alloc)?)),
+        None => Ok(None),
+    }
+}
+
+/// Whether both are the same expression, or both none.
+pub(crate) fn is_same_optional(expr: &Option<Expr>, other: &Option<Expr>) -> bool
+    ensures { IsTrue result ↔ (expr.now ≡ other.now) }
+{
+    match (expr, other) {
+        (Some(expr), Some(other)) => expr.is(other),
+        (None, None) => true,
+        _ => false,
+    }
+}
+
 // An equal expression in a box.
 #[cycle(copy_expr)]
 fn copy_boxed(expr: &Boxed<Expr>, alloc: Global) -> Result<Boxed<Expr>, AllocError>

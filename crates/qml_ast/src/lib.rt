@@ -4,6 +4,7 @@
 //! it holds.
 #![tactic(auto)]
 
+pub mod alike;
 pub mod arithmetic;
 pub mod decl;
 pub mod document;
@@ -11,6 +12,8 @@ pub mod eval_fault;
 pub mod expr;
 pub mod fault;
 pub mod name;
+pub mod param;
+pub mod path;
 pub mod place;
 pub mod span;
 pub mod stmt;
@@ -18,16 +21,22 @@ pub mod text;
 pub mod text_form;
 pub mod value;
 
+pub use alike::is_alike;
 pub use arithmetic::{add, div, mul, rem, sub, truth};
-pub use decl::{Decl, Init, Member, MethodParam, Path, SignalParam};
+pub use decl::{Decl, Init, Member};
 pub use document::{Document, Import};
 pub use eval_fault::EvalFault;
 pub use expr::{BinOp, Expr, UnOp};
 pub use fault::{DocFault, LoadFault};
 pub use name::Name;
+pub use param::{MethodParam, SignalParam};
+pub use path::Path;
 pub use place::{Place, Side};
 pub use span::{At, Span};
 pub use stmt::{AssignOp, LocalWord, Stmt};
 pub use text::Text;
 pub use text_form::to_text;
 pub use value::{Edge, LineRef, Value, equal};
+
+#[cfg(test)]
+mod tests;
