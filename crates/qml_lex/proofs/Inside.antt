@@ -1,7 +1,7 @@
 -- What stands between quotes, part by part.
-use Rattle.std.proofs.Common.{◌≡◌, ◌≢◌, ℕ, zero, suc, ◌+◌, ◌-◌, ◌<◌, ◌≤◌, Bool, true, false, cond, eqb, eq-eqb, List, [], ◌∷◌, ◌++◌, length, take, drop, drop-cons, add-one, get_or, Option, None, Some, sym, refl, ap, subst, ◌∙◌, arith, rules}
+use Rattle.std.proofs.Common.{◌≡◌, ◌≢◌, ℕ, zero, suc, ◌+◌, ◌-◌, ◌<◌, ◌≤◌, false, eqb, eq-eqb, List, [], ◌∷◌, ◌++◌, length, take, drop, drop-cons, add-one, get_or, Option, None, Some, sym, refl, ap, ◌∙◌, arith}
 use Rattle.std.proofs.lemmas.Bool.{ne_eqb}
-use Rattle.std.proofs.lemmas.List.{drop-drop, drop_all, take_all, append_assoc, append-nil, length-drop, length-append}
+use Rattle.std.proofs.lemmas.List.{drop_all, take_all, append_assoc, append-nil, length-drop, length-append}
 use Rattle.std.proofs.lemmas.Grind.{common_steps}
 use Rattle.qml_lex.specs.Bytes.{shifted}
 use Rattle.qml_lex.specs.Texts.{body_len, body_len_after, value_of, value_after, part_of, part_value, spelled_len}

@@ -1,5 +1,5 @@
 -- The first mark of a table from long to short is the longest.
-use Rattle.std.proofs.Common.{◌≡◌, ℕ, ◌≤◌, Bool, true, false, ◌&&◌, cond, List, [], ◌∷◌, length, Option, None, Some, sym, refl, ap, subst, arith, leb-true}
+use Rattle.std.proofs.Common.{◌≡◌, ℕ, ◌≤◌, Bool, true, false, ◌&&◌, cond, List, [], ◌∷◌, length, Some, refl, ap, subst, arith, leb-true}
 use Rattle.std.specs.Prelude.{nat_eq, nat_le, IsTrue, find}
 use Rattle.std.specs.List.{starts_with, list_all, AllByRecursion}
 use Rattle.qml_lex.specs.Laws.{IsLongestMark}

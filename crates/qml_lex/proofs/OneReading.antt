@@ -1,16 +1,11 @@
 -- A text has one reading.
-use Rattle.std.proofs.Common.{◌≡◌, ◌≢◌, ℕ, ◌+◌, List, [], ◌∷◌, sym, refl, ap, ◌∙◌, subst}
+use Rattle.std.proofs.Common.{◌≡◌, ◌≢◌, ℕ, ◌+◌, List, ◌∷◌, sym, refl, ap, ◌∙◌, subst}
 use Rattle.qml_lex.specs.Laws.{HasOneReading}
-use Rattle.qml_lex.specs.Pieces.{piece_of}
-use Rattle.qml_lex.specs.Places.{place_of}
 use Rattle.qml_lex.specs.Reading.{token_at, HasTokens, at_end, past_blank, past_lexeme, IsBadAt, here, later_blank, later_lexeme, IsReadAs, IsRefused, first_offset}
-use Rattle.qml_lex.specs.declared.token.TokenKind.{TokenKind}
 use Rattle.qml_lex.specs.declared.token.Token.{Token}
-use Rattle.qml_lex.specs.declared.piece.Piece.{Piece}
-use Rattle.qml_lex.specs.declared.piece.Piece.TheVariants.{End, Bad, Blank, Lexeme}
 use Rattle.qml_ast.specs.declared.span.Span.{Span}
 use Rattle.qml_ast.specs.declared.fault.DocFault.{DocFault}
-use Rattle.qml_ast.specs.declared.fault.DocFault.TheVariants.{NotUtf8, BadToken, Syntax, TooDeep, Unsupported, UnknownType, UnknownProperty, BadId, DuplicateId, DuplicateName, WrongLiteral, ReadOnly, NoMemory}
+use Rattle.qml_ast.specs.declared.fault.DocFault.TheVariants.{NotUtf8, BadToken, NoMemory}
 
 -- the two places behind the same piece are one
 same_next : (offset m n a b : ℕ) → m ≡ n → a ≡ offset + m → b ≡ offset + n → b ≡ a

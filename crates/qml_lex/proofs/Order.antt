@@ -1,13 +1,13 @@
 -- The tokens of a text and their places are in order.
-use Rattle.std.proofs.Common.{◌≡◌, ◌≢◌, ℕ, zero, suc, ◌+◌, ◌-◌, ◌<◌, ◌≤◌, ◌⊎◌, inl, inr, List, [], ◌∷◌, length, take, get_or, sym, refl, ap, ◌∙◌, subst, arith, rules}
+use Rattle.std.proofs.Common.{◌≡◌, ℕ, zero, suc, ◌+◌, ◌-◌, ◌<◌, ◌≤◌, inl, inr, List, [], ◌∷◌, length, get_or, sym, refl, ◌∙◌, subst, arith}
 use Rattle.std.specs.List.{AllByRecursion}
 use Rattle.std.proofs.lemmas.Bool.Decides.{eqb_tells}
-use Rattle.qml_lex.specs.Laws.{StandsIn, StandInOrder, IsBefore, PlacesRise}
-use Rattle.qml_lex.specs.Places.{place_of, line_after, column_after}
-use Rattle.qml_lex.specs.Reading.{token_at, HasTokens, at_end, past_blank, past_lexeme, IsReadAs, first_offset}
+use Rattle.qml_lex.specs.Laws.{StandInOrder, IsBefore, PlacesRise}
+use Rattle.qml_lex.specs.Places.{place_of}
+use Rattle.qml_lex.specs.Reading.{HasTokens, at_end, past_blank, past_lexeme, IsReadAs, first_offset}
 use Rattle.qml_lex.specs.declared.token.Token.{Token}
 use Rattle.qml_ast.specs.declared.span.Span.{Span}
-use Rattle.qml_lex.proofs.Placing.{line_after_line_end, column_after_line_end, line_after_other, column_after_other}
+use Rattle.qml_lex.proofs.Placing.{line_after_line_end, line_after_other, column_after_other}
 
 -- tokens behind an offset are behind an earlier one
 behind_earlier : (bytes : List ℕ) (i j : ℕ) (tokens : List Token) → i ≤ j → StandInOrder bytes j tokens → StandInOrder bytes i tokens

@@ -1,10 +1,10 @@
 -- What the text of each token is.
-use Rattle.std.proofs.Common.{inl, inr, ◌≡◌, ◌≢◌, ℕ, zero, suc, ◌+◌, ◌-◌, ◌<◌, ◌≤◌, Bool, true, false, cond, ◌&&◌, ◌||◌, leb, eqb, eqb-true, leb-true, List, [], ◌∷◌, ◌++◌, length, take, drop, drop-cons, get_or, Option, None, Some, Result, Ok, Err, sym, refl, ap, ◌∙◌, subst, arith, lit<}
+use Rattle.std.proofs.Common.{inl, inr, ◌≡◌, ℕ, zero, suc, ◌+◌, ◌-◌, ◌<◌, ◌≤◌, Bool, true, false, cond, ◌&&◌, ◌||◌, leb, eqb, eqb-true, leb-true, List, [], ◌∷◌, length, take, drop, drop-cons, get_or, Option, None, Some, Result, Ok, Err, sym, refl, ap, ◌∙◌, subst, arith}
 use Rattle.std.specs.Prelude.{nat_eq, MatchResult, IfOk, codes, slice_range, find, is_some, bytes_eq, option_and_then}
 use Rattle.std.specs.List.{starts_with, list_all, list_any, prefix_len, All, AllByRecursion}
 use Rattle.std.specs.Char.{is_ascii_digit}
-use Rattle.std.specs.Str.{IsUtf8, IsCharBoundary}
-use Rattle.std.proofs.lemmas.List.{length-take, length-drop, get_or-take, get_or-drop, get_or_past, drop-take, drop-drop, take-take}
+use Rattle.std.specs.Str.{IsUtf8}
+use Rattle.std.proofs.lemmas.List.{length-take, length-drop, get_or-take, get_or-drop, get_or_past, drop-take, take-take}
 use Rattle.std.proofs.lemmas.List.Folds.{length-prefix_len}
 use Rattle.std.proofs.lemmas.List.Sums.{prefix_len_is, prefix_len-le-length}
 use Rattle.std.proofs.lemmas.List.Elements.{All-from_recursion}
@@ -24,8 +24,7 @@ use Rattle.qml_lex.specs.declared.token.Token.{Token}
 use Rattle.qml_lex.specs.declared.text.Part.{Part}
 use Rattle.qml_lex.specs.declared.token.TokenKind.{TokenKind}
 use Rattle.qml_lex.specs.declared.token.TokenKind.TheVariants.{Name, Integer, Decimal, Text, Mark}
-use Rattle.qml_lex.specs.declared.piece.Piece.{Piece}
-use Rattle.qml_lex.specs.declared.piece.Piece.TheVariants.{End, Bad, Blank, Lexeme}
+use Rattle.qml_lex.specs.declared.piece.Piece.TheVariants.{Bad, Lexeme}
 use Rattle.qml_lex.proofs.LongestMark.{and_left, and_right, found_passes}
 use Rattle.qml_lex.proofs.Utf8.{value_is_utf8}
 

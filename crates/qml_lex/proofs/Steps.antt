@@ -1,12 +1,11 @@
 -- How the tokens of a text go on.
 use Rattle.std.proofs.Common.{◌≡◌, ℕ, ◌+◌, ◌-◌, ◌≤◌, List, [], ◌∷◌, ◌++◌, length, take, drop, sym, refl, ap, ◌∙◌, subst, arith}
 use Rattle.std.proofs.lemmas.List.{append-nil, append_assoc, length-take, length-drop}
-use Rattle.qml_lex.specs.Pieces.{piece_of, IsWithin}
+use Rattle.qml_lex.specs.Pieces.{piece_of}
 use Rattle.qml_lex.specs.Places.{place_of}
 use Rattle.qml_lex.specs.Reading.{AreWithin, token_at, HasTokens, at_end, past_blank, past_lexeme, IsBadAt, here, later_blank, later_lexeme}
 use Rattle.qml_lex.specs.declared.token.TokenKind.{TokenKind}
 use Rattle.qml_lex.specs.declared.token.Token.{Token}
-use Rattle.qml_lex.specs.declared.piece.Piece.{Piece}
 use Rattle.qml_lex.specs.declared.piece.Piece.TheVariants.{End, Bad, Blank, Lexeme}
 use Rattle.qml_ast.specs.declared.span.Span.{Span}
 use Rattle.qml_lex.proofs.Inside.{take-rest}

@@ -1,5 +1,5 @@
 -- The value of a text is UTF-8.
-use Rattle.std.proofs.Common.{◌≡◌, ◌≢◌, ℕ, zero, suc, ◌+◌, ◌-◌, ◌*◌, ◌/◌, ◌%◌, ◌<◌, ◌≤◌, ◌⊎◌, inl, inr, Bool, true, false, cond, ◌&&◌, ◌||◌, ltb, leb, eqb, eqb-true, List, [], ◌∷◌, ◌++◌, length, take, drop, get_or, Option, None, Some, sym, refl, ap, ◌∙◌, subst, arith, lit<}
+use Rattle.std.proofs.Common.{◌≡◌, ℕ, zero, suc, ◌+◌, ◌-◌, ◌<◌, ◌≤◌, inl, inr, Bool, true, false, cond, ◌&&◌, ◌||◌, ltb, leb, eqb, eqb-true, List, [], ◌∷◌, ◌++◌, length, take, drop, get_or, Option, None, Some, refl, ap, ◌∙◌, subst, arith}
 use lib.Utf8.{encode, scalar, scalars}
 use Rattle.std.specs.Prelude.{option_map, option_and_then, encode_utf8_all}
 use Rattle.std.specs.List.{list_all}
@@ -12,7 +12,7 @@ use Rattle.std.proofs.lemmas.Bool.Decides.{nat_tests}
 use Rattle.std.proofs.lemmas.Bool.{cases_lt, ne_eqb, lt-ltb, le-ltb}
 use Rattle.std.specs.Str.Parse.{digits_value}
 use Rattle.qml_lex.specs.Numbers.{is_digit, number_of}
-use Rattle.qml_lex.specs.Texts.{value_of, value_after, part_of, escape_of, code_of, short_escape, scalar_of, part_value, spelled_len}
+use Rattle.qml_lex.specs.Texts.{value_of, part_of, escape_of, code_of, short_escape, scalar_of, part_value, spelled_len}
 use Rattle.qml_lex.specs.declared.text.Part.{Part}
 use Rattle.qml_lex.specs.declared.text.Part.TheVariants.{Raw, Short, Code}
 use Rattle.qml_lex.proofs.Inside.{value_of-part, value_of-none}

@@ -1,7 +1,7 @@
 -- What holds of every text and its tokens.
-use Rattle.std.specs.Prelude.{◌≡◌, ◌≢◌, ℕ, ◌<◌, ◌≤◌, ◌⊎◌, nat_eq, IsTrue, List, [], ◌∷◌, length, Option, Some}
+use Rattle.std.specs.Prelude.{◌≡◌, ◌≢◌, ℕ, ◌<◌, ◌≤◌, ◌⊎◌, nat_eq, IsTrue, List, [], ◌∷◌, length}
 use Rattle.std.specs.List.{starts_with, AllByRecursion}
-use Rattle.qml_lex.specs.Marks.{marks, mark_of}
+use Rattle.qml_lex.specs.Marks.{marks}
 use Rattle.qml_lex.specs.Places.{place_of}
 use Rattle.qml_lex.specs.Reading.{IsReadAs, IsRefused}
 use Rattle.qml_lex.specs.declared.token.Token.{Token}

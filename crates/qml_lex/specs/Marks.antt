@@ -1,5 +1,5 @@
 -- The marks of the language.
-use Rattle.std.specs.Prelude.{ℕ, nat_eq, List, [], ◌∷◌, ◌++◌, length, Option, option_map, codes, find}
+use Rattle.std.specs.Prelude.{ℕ, nat_eq, List, [], ◌∷◌, ◌++◌, Option, codes, find}
 use Rattle.std.specs.List.{starts_with}
 
 -- the marks of three bytes
@@ -9,12 +9,17 @@ triple_marks = codes "===" ∷ codes "!==" ∷ []
 -- the marks of two bytes
 abbrev pub double_marks : List (List ℕ)
 double_marks =
-    codes "==" ∷ codes "!=" ∷ codes "<=" ∷ codes ">=" ∷ codes "+=" ∷ codes "-=" ∷ codes "*=" ∷ codes "/=" ∷ codes "&&" ∷ codes "||" ∷ codes "++" ∷ codes "--" ∷ []
+    codes "==" ∷ codes "!=" ∷ codes "<=" ∷ codes ">="
+    ∷ codes "+=" ∷ codes "-=" ∷ codes "*=" ∷ codes "/="
+    ∷ codes "&&" ∷ codes "||" ∷ codes "++" ∷ codes "--" ∷ []
 
 -- the marks of one byte
 abbrev pub single_marks : List (List ℕ)
 single_marks =
-    codes "{" ∷ codes "}" ∷ codes "(" ∷ codes ")" ∷ codes "[" ∷ codes "]" ∷ codes ";" ∷ codes ":" ∷ codes "," ∷ codes "." ∷ codes "?" ∷ codes "+" ∷ codes "-" ∷ codes "*" ∷ codes "/" ∷ codes "%" ∷ codes "!" ∷ codes "<" ∷ codes ">" ∷ codes "=" ∷ []
+    codes "{" ∷ codes "}" ∷ codes "(" ∷ codes ")" ∷ codes "[" ∷ codes "]"
+    ∷ codes ";" ∷ codes ":" ∷ codes "," ∷ codes "." ∷ codes "?"
+    ∷ codes "+" ∷ codes "-" ∷ codes "*" ∷ codes "/" ∷ codes "%"
+    ∷ codes "!" ∷ codes "<" ∷ codes ">" ∷ codes "=" ∷ []
 
 -- all of them, the longer ones first
 abbrev pub marks : List (List ℕ)

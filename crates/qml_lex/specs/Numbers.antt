@@ -1,5 +1,5 @@
 -- What numbers are spelled as, and their values.
-use Rattle.std.specs.Prelude.{ℕ, nat_lt, nat_le, nat_eq, ◌==◌, Bool, not, ◌&&◌, if◌then◌else◌, List, drop, length, slice_index, Option, None, Some, codes}
+use Rattle.std.specs.Prelude.{ℕ, nat_lt, nat_le, nat_eq, ◌==◌, Bool, ◌&&◌, if◌then◌else◌, List, drop, length, slice_index, Option, None, Some, codes}
 use Rattle.std.specs.List.{list_all, starts_with}
 use Rattle.std.specs.Char.{digit_value}
 use Rattle.std.specs.Str.Parse.{digits_value}

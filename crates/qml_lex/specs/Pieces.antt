@@ -1,12 +1,11 @@
 -- What a text begins with.
-use Rattle.std.specs.Prelude.{◌≡◌, ℕ, ◌+◌, ◌<◌, ◌≤◌, nat_eq, nat_le, ◌==◌, Bool, ◌&&◌, ◌||◌, if◌then◌else◌, List, [], ◌∷◌, length, take, drop, slice_index, Option, None, Some, is_some, codes}
+use Rattle.std.specs.Prelude.{ℕ, ◌+◌, ◌<◌, ◌≤◌, nat_eq, nat_le, ◌==◌, Bool, ◌&&◌, if◌then◌else◌, List, [], ◌∷◌, length, take, drop, slice_index, Option, None, Some, is_some, codes}
 use Rattle.std.specs.List.{list_all, prefix_len, position_or_len, starts_with}
 use Rattle.std.specs.Char.{is_ascii_digit}
 use Rattle.qml_lex.specs.Bytes.{is_letter, is_word, is_blank, is_line_end, is_quote, shifted}
 use Rattle.qml_lex.specs.Numbers.{integer_of}
 use Rattle.qml_lex.specs.Marks.{mark_of}
 use Rattle.qml_lex.specs.Texts.{body_len, value_of}
-use Rattle.qml_lex.specs.declared.token.TokenKind.{TokenKind}
 use Rattle.qml_lex.specs.declared.token.TokenKind.TheVariants.{Name, Integer, Decimal, Text, Mark}
 use Rattle.qml_lex.specs.declared.piece.Piece.{Piece}
 use Rattle.qml_lex.specs.declared.piece.Piece.TheVariants.{End, Bad, Blank, Lexeme}

@@ -6,7 +6,6 @@ use Rattle.qml_lex.specs.Pieces.{piece_of}
 use Rattle.qml_lex.specs.Places.{place_of}
 use Rattle.qml_lex.specs.declared.token.TokenKind.{TokenKind}
 use Rattle.qml_lex.specs.declared.token.Token.{Token}
-use Rattle.qml_lex.specs.declared.piece.Piece.{Piece}
 use Rattle.qml_lex.specs.declared.piece.Piece.TheVariants.{End, Bad, Blank, Lexeme}
 use Rattle.qml_ast.specs.declared.span.Span.{Span}
 use Rattle.qml_ast.specs.declared.fault.DocFault.{DocFault}
@@ -23,15 +22,26 @@ token_at bytes offset kind n =
 
 -- a text has these tokens from an offset on
 pub data HasTokens (bytes : List ℕ) : ℕ → List Token → Type 0 where
-  at_end : (offset : ℕ) (tokens : List Token) → piece_of (drop offset bytes) ≡ End → tokens ≡ [] → HasTokens bytes offset tokens
-  past_blank : (offset n next : ℕ) (tokens : List Token) → piece_of (drop offset bytes) ≡ Blank n → AreWithin bytes offset n → next ≡ offset + n → HasTokens bytes next tokens → HasTokens bytes offset tokens
-  past_lexeme : (offset n next : ℕ) (kind : TokenKind) (tokens following : List Token) → piece_of (drop offset bytes) ≡ Lexeme kind n → AreWithin bytes offset n → next ≡ offset + n → tokens ≡ token_at bytes offset kind n ∷ following → HasTokens bytes next following → HasTokens bytes offset tokens
+  at_end : (offset : ℕ) (tokens : List Token) →
+      piece_of (drop offset bytes) ≡ End → tokens ≡ [] → HasTokens bytes offset tokens
+  past_blank : (offset n next : ℕ) (tokens : List Token) →
+      piece_of (drop offset bytes) ≡ Blank n → AreWithin bytes offset n → next ≡ offset + n →
+      HasTokens bytes next tokens → HasTokens bytes offset tokens
+  past_lexeme : (offset n next : ℕ) (kind : TokenKind) (tokens following : List Token) →
+      piece_of (drop offset bytes) ≡ Lexeme kind n → AreWithin bytes offset n → next ≡ offset + n →
+      tokens ≡ token_at bytes offset kind n ∷ following → HasTokens bytes next following →
+      HasTokens bytes offset tokens
 
 -- the first piece of a text from an offset on that is no token stands at this place
 pub data IsBadAt (bytes : List ℕ) : ℕ → Span → Type 0 where
-  here : (offset : ℕ) (place : Span) → piece_of (drop offset bytes) ≡ Bad → place ≡ place_of bytes offset → IsBadAt bytes offset place
-  later_blank : (offset n next : ℕ) (place : Span) → piece_of (drop offset bytes) ≡ Blank n → AreWithin bytes offset n → next ≡ offset + n → IsBadAt bytes next place → IsBadAt bytes offset place
-  later_lexeme : (offset n next : ℕ) (kind : TokenKind) (place : Span) → piece_of (drop offset bytes) ≡ Lexeme kind n → AreWithin bytes offset n → next ≡ offset + n → IsBadAt bytes next place → IsBadAt bytes offset place
+  here : (offset : ℕ) (place : Span) →
+      piece_of (drop offset bytes) ≡ Bad → place ≡ place_of bytes offset → IsBadAt bytes offset place
+  later_blank : (offset n next : ℕ) (place : Span) →
+      piece_of (drop offset bytes) ≡ Blank n → AreWithin bytes offset n → next ≡ offset + n →
+      IsBadAt bytes next place → IsBadAt bytes offset place
+  later_lexeme : (offset n next : ℕ) (kind : TokenKind) (place : Span) →
+      piece_of (drop offset bytes) ≡ Lexeme kind n → AreWithin bytes offset n → next ≡ offset + n →
+      IsBadAt bytes next place → IsBadAt bytes offset place
 
 -- the bytes of a byte order mark
 abbrev pub byte_order_mark : List ℕ

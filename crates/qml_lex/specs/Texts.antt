@@ -1,5 +1,5 @@
 -- What stands between the quotes of a text.
-use Rattle.std.specs.Prelude.{ℕ, zero, suc, ◌-◌, nat_lt, nat_le, ◌==◌, ◌&&◌, ◌||◌, if◌then◌else◌, List, [], ◌∷◌, ◌++◌, length, take, drop, Option, None, Some, option_map, option_and_then, encode_utf8}
+use Rattle.std.specs.Prelude.{ℕ, zero, suc, ◌-◌, nat_lt, nat_le, ◌==◌, ◌&&◌, ◌||◌, if◌then◌else◌, List, [], ◌∷◌, ◌++◌, length, take, Option, None, Some, option_map, option_and_then, encode_utf8}
 use Rattle.qml_lex.specs.Numbers.{number_of}
 use Rattle.qml_lex.specs.Bytes.{is_line_end, shifted}
 use Rattle.qml_lex.specs.declared.text.Part.{Part}

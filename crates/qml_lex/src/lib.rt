@@ -2,16 +2,16 @@
 //! Places are lines and columns from 1 on, columns counted in bytes; LF alone ends a line.
 #![tactic(auto)]
 
-pub mod bytes;
-pub mod comment;
+mod bytes;
+mod comment;
 pub mod laws;
 pub mod lexer;
-pub mod mark;
+mod mark;
 pub mod meaning;
-pub mod number;
-pub mod piece;
-pub mod place;
-pub mod text;
+mod number;
+mod piece;
+mod place;
+mod text;
 pub mod token;
 
 pub use lexer::lex;

@@ -3,8 +3,8 @@ ghost use Rattle.qml_lex.specs.Places.{place_of};
 
 use qml_ast::span::Span;
 
-#[tactic(auto, using(crate::proofs::Placing::placing))]
 /// The place of the byte at offset `end` of a text, by the place of the one at offset `start`.
+#[tactic(auto, using(crate::proofs::Placing::placing))]
 pub fn advance(bytes: &[u8], place: Span, start: usize, end: usize) -> Span
     requires from { place ≡ place_of bytes.now start }
     requires order { start ≤ end }

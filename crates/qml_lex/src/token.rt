@@ -47,7 +47,7 @@ impl Model for Tokens {
 
 impl Tokens {
     /// The tokens of a list.
-    pub fn from_vec(tokens: Vec<Token>) -> Tokens
+    pub(crate) fn from_vec(tokens: Vec<Token>) -> Tokens
         ensures { result ≡ tokens.items }
     {
         Tokens { tokens }
