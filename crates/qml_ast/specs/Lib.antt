@@ -1,2 +1,4 @@
 pub mod Arithmetic
+pub mod Equality
 pub mod TextForm
+pub mod Alike

@@ -48,13 +48,11 @@ pub fn mul(a: &Value, b: &Value) -> Result<Value, EvalFault>
 pub fn div(a: &Value, b: &Value) -> Result<Value, EvalFault>
     ensures { result ≡ quotient_of a.now b.now }
 {
-    let (Value::Int(x), Value::Int(y)) = (a, b) else {
-        return Err(EvalFault::WrongKind);
-    };
-    if *y == 0 {
-        return Err(EvalFault::ZeroDivisor);
+    match (a, b) {
+        (Value::Int(_), Value::Int(0)) => Err(EvalFault::ZeroDivisor),
+        (Value::Int(x), Value::Int(y)) => number(x.checked_div(*y)),
+        _ => Err(EvalFault::WrongKind),
     }
-    number(x.checked_div(*y))
 }
 
 /// `a % b`, with the sign of `a`. The faults are WrongKind where the values are not two numbers, and

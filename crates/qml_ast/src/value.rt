@@ -1,4 +1,5 @@
 ghost use Rattle.std.specs.Prelude.{◌≡◌, ◌↔◌, IsTrue, IfOk};
+ghost use Rattle.qml_ast.specs.Equality.{are_equal};
 
 use crate::text::Text;
 use std::alloc::{AllocError, Global};
@@ -57,7 +58,8 @@ impl Value {
 
 /// Whether the values are of one kind and equal. Nothing is converted.
 pub fn equal(a: &Value, b: &Value) -> bool
-    ensures { IsTrue result ↔ (a.now ≡ b.now) }
+    ensures same { IsTrue result ↔ (a.now ≡ b.now) }
+    ensures value { result ≡ are_equal a.now b.now }
 {
     match (a, b) {
         (Value::Int(x), Value::Int(y)) => x == y,

@@ -1,8 +1,10 @@
 -- The canonical text of statements and documents, as bytes. What stands on several lines takes the number of
 -- levels by which its lines are indented.
-use Rattle.std.specs.Prelude.{ℕ, suc, ◌*◌, Bool, true, false, if◌then◌else◌, List, [], ◌∷◌, ◌++◌, replicate, flat_map, map, Option, Some, None, codes, decimal}
+use Rattle.std.specs.Prelude.{ℕ, suc, ◌*◌, if◌then◌else◌, List, [], ◌∷◌, ◌++◌, replicate, flat_map, map, Option, Some, None, codes, decimal}
 use Rattle.qml_ast.specs.declared.decl.Decl.{Decl, fold-Decl}
+use Rattle.qml_ast.specs.declared.decl.Init.{Init, fold-Init}
 use Rattle.qml_ast.specs.declared.decl.Init.TheOpen.{Init-F, Member-F, Decl-F}
+use Rattle.qml_ast.specs.declared.decl.Member.{Member, fold-Member}
 use Rattle.qml_ast.specs.declared.document.Document.{Document}
 use Rattle.qml_ast.specs.declared.document.Import.{Import}
 use Rattle.qml_ast.specs.declared.expr.Expr.{Expr}
@@ -124,6 +126,14 @@ member_step (Member-F.Child x) = x
 
 abbrev pub decl_step : Decl-F Leveled Leveled Leveled → Leveled
 decl_step x = λ levels. x.name ++ (codes " " ++ braced x.members levels)
+
+-- a value at so many levels
+abbrev pub init_text : Init → Leveled
+init_text = fold-Init Leveled Leveled Leveled init_step member_step decl_step
+
+-- a member at so many levels
+abbrev pub member_text : Member → Leveled
+member_text = fold-Member Leveled Leveled Leveled init_step member_step decl_step
 
 -- a declaration at so many levels
 abbrev pub decl_text : Decl → Leveled

@@ -18,7 +18,7 @@ use Rattle.qml_ast.specs.declared.span.Span.{Span}
 use Rattle.qml_ast.specs.declared.stmt.Stmt.{Stmt}
 use Rattle.qml_grammar.specs.Ends.{ended}
 use Rattle.qml_grammar.specs.Expressions.{whole}
-use Rattle.qml_grammar.specs.Inputs.{Input, Parser, ahead, after, place, refusal, refused, too_deep, pure, ◌>>=◌, ◌>>◌, while_next, take_token, expect, any_name}
+use Rattle.qml_grammar.specs.Inputs.{Parser, ahead, after, place, refusal, refused, too_deep, pure, ◌>>=◌, ◌>>◌, while_next, take_token, expect, any_name}
 use Rattle.qml_grammar.specs.Lexemes.{Lexeme, decimal, text, Token, head, tail, is_mark, is_word, name_of}
 use Rattle.qml_grammar.specs.Names.{upper_first, is_handler_name, is_handler_path, name_is, is_dotted_type, is_dotted_kind, begins_object, begins_group}
 use Rattle.qml_grammar.specs.Statements.{bodies, statement, goes_on_inside}
@@ -73,13 +73,13 @@ body v i = if is_mark OpenBrace (ahead i) then v.members i else Err (refusal i)
 
 -- object = Name "{" { member } "}", whose name begins with an upper-case letter
 unfoldable pub object_in : Under → Parser Decl
-object_in v i = elim (name_of (ahead i)) [ Some n ↦ (if upper_first n then (do take_token ; xs ← body v ; pure (roll-Decl (record { name = n; members = xs; span = place i }))) i else Err (refusal i)) | None ↦ Err (refusal i) ]
+object_in v i = elim (name_of (ahead i)) [ Some n ↦ (if upper_first n then (do take_token; xs ← body v; pure (roll-Decl (record { name = n; members = xs; span = place i }))) i else Err (refusal i)) | None ↦ Err (refusal i) ]
 
 unfoldable pub object_value : Under → Parser Valued
-object_value v i = (do x ← object_in v ; pure (record { init = ii.Object x; span = place i })) i
+object_value v i = (do x ← object_in v; pure (record { init = ii.Object x; span = place i })) i
 
 unfoldable pub expr_value : ℕ → Parser Valued
-expr_value d i = (do x ← whole d ; pure (record { init = ii.Expr x; span = value_place x i.rest i.end })) i
+expr_value d i = (do x ← whole d; pure (record { init = ii.Expr x; span = value_place x i.rest i.end })) i
 
 -- value = expr | object
 unfoldable pub value_in : ℕ → Under → Parser Valued
@@ -92,7 +92,7 @@ unfoldable pub id_member : Parser Member
 id_member = do
   take_token
   expect Colon
-  λ i. (do n ← any_name ; pure (mm.Id n (place i))) i
+  λ i. (do n ← any_name; pure (mm.Id n (place i))) i
 
 -- the name of a kind
 unfoldable pub kind : Parser (List ℕ)
@@ -104,12 +104,12 @@ property_kind i = if is_word ww.Alias (ahead i) then Err (Unsupported (place i))
 -- [ ":" value ], behind the name of a property
 unfoldable pub property_value : ℕ → Under → Bool → List ℕ → Span → List ℕ → Span → Parser Member
 property_value d v fixed k at n there i =
-    if is_mark Colon (ahead i) then (do take_token ; x ← value_in d v ; pure (mm.Property fixed k n (Some x.init) at x.span there)) i
+    if is_mark Colon (ahead i) then (do take_token; x ← value_in d v; pure (mm.Property fixed k n (Some x.init) at x.span there)) i
     else Ok (mm.Property fixed k n None at there there, i)
 
 -- Name Name [ ":" value ], behind `property`
 unfoldable pub kind_and_name : ℕ → Under → Bool → Parser Member
-kind_and_name d v fixed i = (do k ← property_kind ; λ j. (do n ← any_name ; property_value d v fixed k (place i) n (place j)) j) i
+kind_and_name d v fixed i = (do k ← property_kind; λ j. (do n ← any_name; property_value d v fixed k (place i) n (place j)) j) i
 
 -- "property" Name Name [ ":" value ]
 unfoldable pub property : ℕ → Under → Bool → Parser Member
@@ -125,7 +125,7 @@ fixed_property d v = do
 
 -- Name Name
 unfoldable pub signal_param : Parser SignalParam
-signal_param i = (do k ← kind ; λ j. (do n ← any_name ; pure (record { kind = k; name = n; kind_span = place i; name_span = place j })) j) i
+signal_param i = (do k ← kind; λ j. (do n ← any_name; pure (record { kind = k; name = n; kind_span = place i; name_span = place j })) j) i
 
 -- one more parameter, behind a comma
 unfoldable pub more_signal_params : List SignalParam → Parser (List SignalParam)
@@ -143,16 +143,16 @@ some_signal_params = do
 
 -- [ "(" [ Name Name { "," Name Name } ] ")" ]
 unfoldable pub signal_params : Parser (List SignalParam)
-signal_params i = if is_mark OpenParen (ahead i) then (do take_token ; λ j. if is_mark CloseParen (ahead j) then Ok ([], after j) else some_signal_params j) i else Ok ([], i)
+signal_params i = if is_mark OpenParen (ahead i) then (do take_token; λ j. if is_mark CloseParen (ahead j) then Ok ([], after j) else some_signal_params j) i else Ok ([], i)
 
 -- "signal" Name [ "(" [ Name Name { "," Name Name } ] ")" ]
 unfoldable pub signal_member : Parser Member
 signal_member = do
   take_token
-  λ i. (do n ← any_name ; xs ← signal_params ; pure (mm.Signal n xs (place i))) i
+  λ i. (do n ← any_name; xs ← signal_params; pure (mm.Signal n xs (place i))) i
 
 unfoldable pub method_param : Parser MethodParam
-method_param i = (do n ← any_name ; pure (record { name = n; span = place i })) i
+method_param i = (do n ← any_name; pure (record { name = n; span = place i })) i
 
 -- one more parameter, behind a comma
 unfoldable pub more_method_params : List MethodParam → Parser (List MethodParam)
@@ -187,7 +187,7 @@ method_behind d n at = do
 unfoldable pub method : ℕ → Parser Member
 method d = do
   take_token
-  λ i. (do n ← any_name ; method_behind d n (place i)) i
+  λ i. (do n ← any_name; method_behind d n (place i)) i
 
 -- Members of paths
 
@@ -196,7 +196,7 @@ unfoldable pub second_name : List ℕ → Parser (List ℕ)
 second_name n i = if name_is is_handler_name (ahead i) && not (bytes_eq n (codes "Component")) then Err (refusal i) else any_name i
 
 unfoldable pub path_behind : List ℕ → Parser Path
-path_behind n i = if is_mark Dot (ahead i) then (do take_token ; m ← second_name n ; pure (record { first = n; second = Some m })) i else Ok (record { first = n; second = None }, i)
+path_behind n i = if is_mark Dot (ahead i) then (do take_token; m ← second_name n; pure (record { first = n; second = Some m })) i else Ok (record { first = n; second = None }, i)
 
 -- path = Name [ "." Name ]
 unfoldable pub path : Parser Path
@@ -220,7 +220,7 @@ behind_path d v p at i = if is_handler_path p then handled d p at i else initial
 
 -- path ":" value | path ":" body
 unfoldable pub path_member : ℕ → Under → Parser Member
-path_member d v i = (do p ← path ; expect Colon ; behind_path d v p (place i)) i
+path_member d v i = (do p ← path; expect Colon; behind_path d v p (place i)) i
 
 -- Groups
 
@@ -230,7 +230,7 @@ entry_name i = if name_is is_handler_name (ahead i) then Err (refusal i) else an
 
 -- Name ":" value, in the group of the given name
 unfoldable pub entry : ℕ → Under → List ℕ → Parser Member
-entry d v n i = (do m ← entry_name ; expect Colon ; x ← value_in d v ; pure (mm.Init (record { first = n; second = Some m }) x.init x.span (place i))) i
+entry d v n i = (do m ← entry_name; expect Colon; x ← value_in d v; pure (mm.Init (record { first = n; second = Some m }) x.init x.span (place i))) i
 
 -- one more entry, behind others
 unfoldable pub one_entry : ℕ → Under → List ℕ → List Member → Parser (List Member)
@@ -377,7 +377,7 @@ import_version at = do
   pure (record { «module» = codes "QtQuick"; major = 2; minor = minor; span = at })
 
 unfoldable pub import_module : Parser Import
-import_module i = (do ours ← module_name ; λ j. if ours then import_version (place i) j else Err (Unsupported (place i))) i
+import_module i = (do ours ← module_name; λ j. if ours then import_version (place i) j else Err (Unsupported (place i))) i
 
 abbrev pub is_text_lexeme : Lexeme → Bool
 is_text_lexeme (text s) = true

@@ -1,6 +1,6 @@
 -- Where a statement or a member ends, and what was read since a moment.
-use Rattle.std.specs.Prelude.{ℕ, ◌-◌, ◌||◌, not, Bool, true, false, if◌then◌else◌, List, length, slice_range, Option, Some, None, Result, Ok, Err, is_none}
-use Rattle.qml_grammar.specs.Inputs.{Input, Parser, ahead, after, refusal, pure, ◌>>=◌, ◌>>◌}
+use Rattle.std.specs.Prelude.{◌-◌, ◌||◌, not, Bool, if◌then◌else◌, List, length, slice_range, Option, Ok, Err, is_none}
+use Rattle.qml_grammar.specs.Inputs.{Parser, ahead, after, refusal, pure, ◌>>=◌, ◌>>◌}
 use Rattle.qml_grammar.specs.Lexemes.{Token, is_mark, last_of, same_line}
 use Rattle.qml_grammar.specs.declared.mark.Mark.TheVariants.{CloseBrace, Semicolon}
 
@@ -18,4 +18,4 @@ end_behind last i = if is_mark Semicolon (ahead i) then Ok (tt, after i) else (i
 
 -- what the parser reads, with its end
 unfoldable pub ended : {A : Type 0} → Parser A → Parser A
-ended p i = (do x ← p ; λ j. (do end_behind (last_of (since i.rest j.rest)) ; pure x) j) i
+ended p i = (do x ← p; λ j. (do end_behind (last_of (since i.rest j.rest)); pure x) j) i

@@ -1,11 +1,11 @@
 -- How an expression is read: the longest one that the tokens begin with, or the first fault. `d` is the
 -- number of levels that may still be opened.
-use Rattle.std.specs.Prelude.{ℕ, zero, suc, ◌||◌, Bool, is_some, if◌then◌else◌, List, [], ◌∷◌, ◌++◌, Option, Some, None, Result, Ok, Err}
+use Rattle.std.specs.Prelude.{ℕ, zero, suc, ◌||◌, Bool, is_some, if◌then◌else◌, List, [], ◌∷◌, ◌++◌, Option, Some, None, Ok, Err}
 use Rattle.qml_ast.specs.declared.expr.BinOp.{BinOp}
 use Rattle.qml_ast.specs.declared.expr.Expr.{Expr}
 use Rattle.qml_ast.specs.declared.expr.Expr.TheVariants.{Member, Call, Unary, Binary, And, Or, Cond}
 use Rattle.qml_ast.specs.declared.expr.UnOp.{UnOp}
-use Rattle.qml_grammar.specs.Inputs.{Input, Parser, ahead, after, refusal, operand_refusal, too_deep, pure, ◌>>=◌, ◌>>◌, while_next, take_token, take_node, expect, any_name}
+use Rattle.qml_grammar.specs.Inputs.{Parser, ahead, after, refusal, operand_refusal, too_deep, pure, ◌>>=◌, ◌>>◌, while_next, take_token, take_node, expect, any_name}
 use Rattle.qml_grammar.specs.Lexemes.{Token, is_mark, atom_of, looked_up, unary_operator, product_operator, sum_operator, order_operator, equality_operator}
 use Rattle.qml_grammar.specs.declared.mark.Mark.{Mark}
 use Rattle.qml_grammar.specs.declared.mark.Mark.TheVariants.{OpenParen, CloseParen, Colon, Comma, Dot, Question, DoubleAmpersand, DoubleBar}
@@ -28,7 +28,7 @@ parens v = do
 
 -- a literal or a name
 unfoldable pub atom : Parser Expr
-atom i = elim (atom_of (ahead i)) [ Some x ↦ (do take_node ; pure x) i | None ↦ Err (operand_refusal i) ]
+atom i = elim (atom_of (ahead i)) [ Some x ↦ (do take_node; pure x) i | None ↦ Err (operand_refusal i) ]
 
 unfoldable pub primary : Inner → Parser Expr
 primary v i = if is_mark OpenParen (ahead i) then parens v i else atom i

@@ -1,5 +1,5 @@
 -- The tokens of a document, and tests on single ones. What is tested may be missing, at the end.
-use Rattle.std.specs.Prelude.{◌≡◌, ℕ, pred, ◌==◌, ◌||◌, Bool, true, false, ℤ, pos, if◌then◌else◌, List, [], ◌∷◌, length, slice_get, Option, Some, None, is_some}
+use Rattle.std.specs.Prelude.{ℕ, pred, ◌==◌, ◌||◌, Bool, true, false, pos, if◌then◌else◌, List, [], ◌∷◌, length, slice_get, Option, Some, None, is_some}
 use Rattle.qml_ast.specs.declared.expr.BinOp.{BinOp}
 use Rattle.qml_ast.specs.declared.expr.BinOp.TheVariants.{Add, Sub, Mul, Div, Rem, Lt, Le, Gt, Ge, Eq, Ne, Eq3, Ne3}
 use Rattle.qml_ast.specs.declared.expr.Expr.{Expr}

@@ -10,7 +10,9 @@ pub mod Inputs
 pub mod Lexemes
 pub mod Marks
 pub mod Names
+pub mod PrintCases
 pub mod Samples
 pub mod StatementGrammar
 pub mod Statements
+pub mod TreeCases
 pub mod Words

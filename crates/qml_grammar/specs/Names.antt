@@ -1,5 +1,5 @@
 -- What the spelling of a name says, and names with dots between them.
-use Rattle.std.specs.Prelude.{◌≡◌, ℕ, ◌&&◌, ◌||◌, not, nat_le, Bool, true, false, is_some, List, [], ◌∷◌, ◌++◌, take, drop, Option, Some, None, codes, bytes_eq}
+use Rattle.std.specs.Prelude.{ℕ, ◌&&◌, nat_le, Bool, true, false, is_some, List, [], ◌∷◌, take, drop, Option, Some, None, codes, bytes_eq}
 use Rattle.qml_ast.specs.declared.path.Path.{Path}
 use Rattle.qml_grammar.specs.Lexemes.{Token, head, tail, name_of, is_mark}
 use Rattle.qml_grammar.specs.declared.mark.Mark.TheVariants.{OpenBrace, Dot}

@@ -1,6 +1,6 @@
 -- Short texts as tokens, for worked cases: names, numbers, texts without escapes, marks, spaces. A document
 -- is a list of lines.
-use Rattle.std.specs.Prelude.{ℕ, zero, suc, ◌+◌, ◌*◌, ◌-◌, ◌==◌, ◌&&◌, ◌||◌, not, nat_le, Bool, true, false, List, [], ◌∷◌, ◌++◌, length, take, drop, fold, bytes_eq, find, take_while, Option, Some, None, Result, Ok, Err}
+use Rattle.std.specs.Prelude.{ℕ, zero, suc, ◌+◌, ◌*◌, ◌-◌, ◌==◌, ◌&&◌, ◌||◌, not, nat_le, Bool, true, false, List, [], ◌∷◌, ◌++◌, length, take, drop, fold, bytes_eq, find, take_while, Some, None, Result, Ok, Err}
 use Rattle.qml_ast.specs.declared.fault.DocFault.{DocFault}
 use Rattle.qml_ast.specs.declared.span.Span.{Span}
 use Rattle.qml_grammar.specs.Inputs.{Input}
@@ -46,20 +46,24 @@ mark_piece bytes = elim (find (λ m. bytes_eq (mark_text m) (take (length (mark_
 -- what bytes begin with, the first of which is given
 unfoldable pub piece : ℕ → List ℕ → Piece
 piece b bytes = elim (is_letter b) [
-    true ↦ name_piece (take_while (λ c. is_letter c || is_digit c) bytes)
+  | true ↦ name_piece (take_while (λ c. is_letter c || is_digit c) bytes)
   | false ↦ elim (is_digit b) [
-      true ↦ (let digits = take_while is_digit bytes in number_piece digits (fraction (drop (length digits) bytes)))
+    | true ↦ (let digits = take_while is_digit bytes in number_piece digits (fraction (drop (length digits) bytes)))
     | false ↦ elim (is_quote b) [
-        true ↦ text_piece (take_while (λ c. not (c == b)) (drop 1 bytes))
-      | false ↦ mark_piece bytes ] ] ]
+      | true ↦ text_piece (take_while (λ c. not (c == b)) (drop 1 bytes))
+      | false ↦ mark_piece bytes
+    ]
+  ]
+]
 
 -- the tokens of a line's bytes from a column on, at most so many
 unfoldable pub tokens_from : ℕ → ℕ → ℕ → List ℕ → List Token
 tokens_from zero line column bytes = []
 tokens_from (suc n) line column [] = []
 tokens_from (suc n) line column (b ∷ bs) = elim (b == 32) [
-    true ↦ tokens_from n line (suc column) bs
-  | false ↦ (let p : Piece = piece b (b ∷ bs) in record { lexeme = p.lexeme; span = record { line = line; col = column } } ∷ tokens_from n line (column + p.size) (drop p.size (b ∷ bs))) ]
+  | true ↦ tokens_from n line (suc column) bs
+  | false ↦ (let p : Piece = piece b (b ∷ bs) in record { lexeme = p.lexeme; span = record { line = line; col = column } } ∷ tokens_from n line (column + p.size) (drop p.size (b ∷ bs)))
+]
 
 -- the tokens of lines from a line on
 unfoldable pub lines_from : ℕ → List (List ℕ) → List Token

@@ -11,7 +11,6 @@ use Rattle.qml_ast.specs.declared.stmt.Stmt.TheVariants.{Local, Assign, Step, Do
 use Rattle.qml_grammar.specs.Ends.{may_end}
 use Rattle.qml_grammar.specs.ExpressionGrammar.{IsMark, IsOperator, IsExpr}
 use Rattle.qml_grammar.specs.Lexemes.{Token, head, last_of, is_mark, is_word, name_of, operand_name_of, local_word_of, same_line, looked_up, product_operator, sum_operator, order_operator, equality_operator, assign_operator, step_operator}
-use Rattle.qml_grammar.specs.declared.mark.Mark.{Mark}
 use Rattle.qml_grammar.specs.declared.mark.Mark.TheVariants.{OpenBrace, CloseBrace, OpenParen, CloseParen, Semicolon, Dot, Equal, Question, DoubleAmpersand, DoubleBar}
 use Rattle.qml_grammar.specs.declared.word.Word.{Word}
 use Rattle.qml_grammar.specs.declared.word.Word.TheVariants as ww

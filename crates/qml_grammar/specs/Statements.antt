@@ -1,5 +1,5 @@
 -- How a statement is read, or its first fault. `d` is the number of levels that may still be opened.
-use Rattle.std.specs.Prelude.{ℕ, zero, suc, ◌&&◌, ◌||◌, not, Bool, true, false, is_some, if◌then◌else◌, List, [], ◌∷◌, ◌++◌, Option, Some, None, Result, Ok, Err}
+use Rattle.std.specs.Prelude.{ℕ, zero, suc, ◌&&◌, ◌||◌, not, Bool, true, false, is_some, if◌then◌else◌, List, [], ◌∷◌, ◌++◌, Option, Some, None, Ok, Err}
 use Rattle.qml_ast.specs.declared.expr.Expr.{Expr}
 use Rattle.qml_ast.specs.declared.expr.Expr.TheVariants.{Name}
 use Rattle.qml_ast.specs.declared.stmt.AssignOp.{AssignOp}
@@ -9,8 +9,8 @@ use Rattle.qml_ast.specs.declared.stmt.Stmt.{Stmt}
 use Rattle.qml_ast.specs.declared.stmt.Stmt.TheVariants.{Local, Assign, Step, Do, Block, Empty, If, While, For, Return}
 use Rattle.qml_grammar.specs.Ends.{since, ended}
 use Rattle.qml_grammar.specs.Expressions.{member, whole}
-use Rattle.qml_grammar.specs.Inputs.{Input, Parser, ahead, after, refusal, operand_refusal, refused, too_deep, pure, ◌>>=◌, ◌>>◌, while_next, take_token, take_node, expect, any_name}
-use Rattle.qml_grammar.specs.Lexemes.{Token, head, last_of, is_mark, is_word, is_name, atom_of, operand_name_of, local_word_of, same_line, looked_up, unary_operator, assign_operator, step_operator}
+use Rattle.qml_grammar.specs.Inputs.{Parser, ahead, refusal, operand_refusal, refused, too_deep, pure, ◌>>=◌, ◌>>◌, while_next, take_token, take_node, expect, any_name}
+use Rattle.qml_grammar.specs.Lexemes.{Token, last_of, is_mark, is_word, is_name, atom_of, operand_name_of, local_word_of, same_line, looked_up, unary_operator, assign_operator, step_operator}
 use Rattle.qml_grammar.specs.declared.mark.Mark.{Mark}
 use Rattle.qml_grammar.specs.declared.mark.Mark.TheVariants.{OpenBrace, CloseBrace, OpenParen, CloseParen, Semicolon, Dot, Equal}
 use Rattle.qml_grammar.specs.declared.word.Word.TheVariants as ww
@@ -30,7 +30,7 @@ is_target (t ∷ ts) = is_some (operand_name_of (Some t)) && are_members ts
 
 -- the first name of a target
 unfoldable pub target_name : Parser Expr
-target_name i = elim (operand_name_of (ahead i)) [ Some n ↦ (do take_node ; pure (Name n)) i | None ↦ Err (refusal i) ]
+target_name i = elim (operand_name_of (ahead i)) [ Some n ↦ (do take_node; pure (Name n)) i | None ↦ Err (refusal i) ]
 
 unfoldable pub target_in : Parser Expr
 target_in = do
@@ -66,7 +66,7 @@ change_or other d x last i = elim (looked_up assign_operator (ahead i)) [ Some o
 
 -- "=" expr, or nothing
 unfoldable pub initial : ℕ → Parser (Option Expr)
-initial d i = if is_mark Equal (ahead i) then (do take_token ; x ← whole d ; pure (Some x)) i else Ok (None, i)
+initial d i = if is_mark Equal (ahead i) then (do take_token; x ← whole d; pure (Some x)) i else Ok (None, i)
 
 -- ( "var" | "let" | "const" ) Name [ "=" expr ]
 unfoldable pub local : ℕ → LocalWord → Parser Stmt
@@ -81,18 +81,18 @@ abbrev pub gives_value : Option Token → Option Token → Bool
 gives_value last next = same_line last next && not (is_mark Semicolon next || is_mark CloseBrace next)
 
 unfoldable pub returned : ℕ → Option Token → Parser Stmt
-returned d last i = if gives_value last (ahead i) then (do x ← whole d ; pure (Return (Some x))) i else Ok (Return None, i)
+returned d last i = if gives_value last (ahead i) then (do x ← whole d; pure (Return (Some x))) i else Ok (Return None, i)
 
 -- "return" [ expr ]
 unfoldable pub leave : ℕ → Parser Stmt
-leave d i = (do take_token ; returned d (ahead i)) i
+leave d i = (do take_token; returned d (ahead i)) i
 
 -- an expression, or what changes it where it is a target
 unfoldable pub acted : ℕ → List Token → Option Token → Expr → Parser Stmt
 acted d ts last x i = if is_target ts then change_or (pure (Do x)) d x last i else Ok (Do x, i)
 
 unfoldable pub act : ℕ → Parser Stmt
-act d i = (do x ← whole d ; λ j. acted d (since i.rest j.rest) (last_of (since i.rest j.rest)) x j) i
+act d i = (do x ← whole d; λ j. acted d (since i.rest j.rest) (last_of (since i.rest j.rest)) x j) i
 
 -- Simple parts of `for`
 
@@ -106,7 +106,7 @@ simple_local d = do
   pure (Local AsVar n (Some x))
 
 unfoldable pub simple_change : ℕ → Parser Stmt
-simple_change d i = (do x ← target ; λ j. change_or refused d x (last_of (since i.rest j.rest)) j) i
+simple_change d i = (do x ← target; λ j. change_or refused d x (last_of (since i.rest j.rest)) j) i
 
 -- simple = "var" Name "=" expr | target ( "++" | "--" ) | target ( "=" | "+=" | "-=" | "*=" | "/=" ) expr
 unfoldable pub simple : ℕ → Parser Stmt
@@ -114,11 +114,11 @@ simple d i = if is_word ww.Var (ahead i) then simple_local d i else simple_chang
 
 -- [ simple ], before a mark
 unfoldable pub simple_before : Mark → ℕ → Parser (Option Stmt)
-simple_before m d i = if is_mark m (ahead i) then Ok (None, i) else (do x ← simple d ; pure (Some x)) i
+simple_before m d i = if is_mark m (ahead i) then Ok (None, i) else (do x ← simple d; pure (Some x)) i
 
 -- [ expr ], before a semicolon
 unfoldable pub test : ℕ → Parser (Option Expr)
-test d i = if is_mark Semicolon (ahead i) then Ok (None, i) else (do x ← whole d ; pure (Some x)) i
+test d i = if is_mark Semicolon (ahead i) then Ok (None, i) else (do x ← whole d; pure (Some x)) i
 
 -- Statements
 
@@ -163,7 +163,7 @@ condition d = do
 
 -- [ "else" statement ]
 unfoldable pub otherwise : Bodies → Expr → Stmt → Parser Stmt
-otherwise v x y i = if is_word ww.Else (ahead i) then (do take_token ; z ← v.nested ; pure (If x y (Some z))) i else Ok (If x y None, i)
+otherwise v x y i = if is_word ww.Else (ahead i) then (do take_token; z ← v.nested; pure (If x y (Some z))) i else Ok (If x y None, i)
 
 -- "if" "(" expr ")" statement [ "else" statement ]
 unfoldable pub choice : ℕ → Bodies → Parser Stmt

@@ -85,7 +85,50 @@ pub enum Word {
 }
 
 impl Word {
-    ghost use Rattle.qml_grammar.specs.Words.{word_text};
+    ghost use Rattle.qml_grammar.specs.Words.{word_text, word_of};
+
+    /// Each word once.
+    pub const ALL: [Word; 39] = [
+        Word::Var,
+        Word::Let,
+        Word::Const,
+        Word::If,
+        Word::Else,
+        Word::While,
+        Word::For,
+        Word::Return,
+        Word::True,
+        Word::False,
+        Word::Null,
+        Word::Undefined,
+        Word::Function,
+        Word::Switch,
+        Word::Do,
+        Word::Break,
+        Word::Continue,
+        Word::Try,
+        Word::Throw,
+        Word::New,
+        Word::Delete,
+        Word::TypeOf,
+        Word::InstanceOf,
+        Word::In,
+        Word::Void,
+        Word::With,
+        Word::Class,
+        Word::This,
+        Word::Id,
+        Word::Property,
+        Word::ReadOnly,
+        Word::Signal,
+        Word::Default,
+        Word::Enum,
+        Word::Required,
+        Word::Alias,
+        Word::On,
+        Word::Import,
+        Word::As,
+    ];
 
     /// How the word is written.
     #[tactic(auto, unfolding(crate::specs::Words::word_text))]
@@ -133,5 +176,13 @@ impl Word {
             Word::Import => "import",
             Word::As => "as",
         }
+    }
+
+    /// The word that is written so, or None where the name is a name like others.
+    #[tactic(auto, unfolding(crate::specs::Words::word_of))]
+    pub fn of_name(name: &str) -> Option<Word>
+        ensures { result ≡ word_of name.now }
+    {
+        Word::ALL.iter().copied().find(|word| word.as_str() == name)
     }
 }

@@ -4,8 +4,8 @@ use Rattle.std.proofs.lemmas.List.{set_at, set-append_left, length_push}
 use Rattle.std.proofs.lemmas.Bool.Decides.{nat_tests}
 use Rattle.qml_parse.specs.declared.document.RectDecl.{RectDecl}
 use Rattle.qml_parse.specs.declared.draft.Draft.{Draft}
-use Rattle.qml_parse.specs.declared.fault.DocFault.{DocFault}
-use Rattle.qml_parse.specs.declared.fault.DocFault.TheVariants.{Unsupported, NoMemory}
+use Rattle.qml_ast.specs.declared.fault.DocFault.{DocFault}
+use Rattle.qml_ast.specs.declared.fault.DocFault.TheVariants.{Unsupported, NoMemory}
 use Rattle.qml_parse.specs.declared.part.Part.{Part}
 use Rattle.qml_parse.specs.declared.part.Part.TheVariants.{Value, Tint, Begin, End}
 use Rattle.qml_parse.specs.declared.token.Token.{Token}
@@ -305,3 +305,4 @@ goes part d outer objects tokens rest state h opened e = record {
 pub just_weaker : (fault : DocFault) (P Q : Type 0) → IsJust fault P → (Q → P) → IsJust fault Q
 just_weaker (Unsupported at) P Q h f = (h.0, λ q. h.1 (f q))
 just_weaker NoMemory P Q h f = tt
+just_weaker _ P Q h f = absurd h

@@ -3,8 +3,8 @@ use Rattle.std.proofs.Common.{◌≡◌, ℕ, ◌+◌, ◌*◌, ◌^◌, ◌<◌
 use Rattle.std.proofs.lemmas.Option.{same_Some}
 use Rattle.std.specs.Prelude.{slice_get}
 use Rattle.qml_parse.specs.declared.document.RectDecl.{RectDecl}
-use Rattle.qml_parse.specs.declared.fault.DocFault.{DocFault}
-use Rattle.qml_parse.specs.declared.fault.DocFault.TheVariants.{Unsupported, NoMemory}
+use Rattle.qml_ast.specs.declared.fault.DocFault.{DocFault}
+use Rattle.qml_ast.specs.declared.fault.DocFault.TheVariants.{Unsupported, NoMemory}
 use Rattle.qml_parse.specs.declared.token.Token.{Token}
 use Rattle.qml_parse.specs.declared.token.Token.TheVariants.{Rectangle, Name, Color, Number, Paint, Open, Close, Colon, Semicolon}
 use Rattle.qml_parse.specs.Answers.{IsJust, Reads}
@@ -197,3 +197,4 @@ pub just_reads : (fault : DocFault) (bytes : List ℕ) → IsJust fault ((object
     → (objects : List RectDecl) → IsDocument bytes objects → Reads (Err fault) objects
 just_reads (Unsupported at) bytes just objects is = just.1 (objects, is)
 just_reads NoMemory bytes just objects is = tt
+just_reads _ bytes just objects is = absurd just

@@ -7,9 +7,10 @@ ghost use Rattle.qml_parse.specs.Building.{IsBuilt, step, stack};
 
 use crate::document::RectDecl;
 use crate::draft::Draft;
-use crate::fault::DocFault;
+use crate::fault::REFUSED;
 use crate::part::{Part, first_part};
 use crate::token::Token;
+use qml_ast::DocFault;
 use std::alloc::Global;
 
 /// How many objects may stand in each other.
@@ -30,18 +31,16 @@ fn take_part(
 {
     match part {
         Part::Value(property, number) => {
-            let draft = draft
-                .with_number(property, number)
-                .ok_or(DocFault::REFUSED)?;
+            let draft = draft.with_number(property, number).ok_or(REFUSED)?;
             Ok(Some(draft))
         }
         Part::Tint(color) => {
-            let draft = draft.with_color(color).ok_or(DocFault::REFUSED)?;
+            let draft = draft.with_color(color).ok_or(REFUSED)?;
             Ok(Some(draft))
         }
         Part::Begin => {
             if outer.len() >= LEVELS - 1 {
-                return Err(DocFault::REFUSED);
+                return Err(REFUSED);
             }
             let inner = Draft::new(objects.len(), Some(draft.index));
             outer.push(draft)?;
@@ -71,19 +70,19 @@ pub fn build(alloc: Global, tokens: &[Token]) -> Result<Vec<RectDecl>, DocFault>
     ensures read { IfOk result (λ objects. IsBuilt tokens.now objects.items) }
     ensures refused { IfErr result (λ fault. IsJust fault ((objects : List RectDecl) × IsBuilt tokens.now objects)) }
 {
-    let mut rest = first_behind(tokens).ok_or(DocFault::REFUSED)?;
+    let mut rest = first_behind(tokens).ok_or(REFUSED)?;
     let root = Draft::new(0, None);
     let mut outer = Vec::new(alloc);
     let mut objects = Vec::new(alloc);
     objects.push(root.object())?;
     let mut inner = Some(root);
     while let Some(draft) = inner {
-        let (part, behind) = first_part(rest).ok_or(DocFault::REFUSED)?;
+        let (part, behind) = first_part(rest).ok_or(REFUSED)?;
         inner = take_part(part, draft, &mut outer, &mut objects)?;
         rest = behind;
     }
     if !rest.is_empty() {
-        return Err(DocFault::REFUSED);
+        return Err(REFUSED);
     }
     Ok(objects)
 }

@@ -4,8 +4,9 @@ ghost use Rattle.qml_parse.specs.Answers.{IsJust};
 ghost use Rattle.qml_parse.specs.Lexing.{color_text, first_token, has_plain_start, hex_byte, number_of, one_more, opaque_of, word, word_len, word_or_number};
 ghost use Rattle.qml_parse.specs.Spelling.{IsSpaced, behind_blanks, hex_digit, is_in_word};
 
-use crate::fault::DocFault;
+use crate::fault::REFUSED;
 use crate::token::{Property, Token};
+use qml_ast::DocFault;
 use std::alloc::Global;
 
 /// The greatest number that a document may have.
@@ -192,7 +193,7 @@ pub fn tokens_of(alloc: Global, bytes: &[u8]) -> Result<Vec<Token>, DocFault>
     let mut tokens = Vec::new(alloc);
     let mut rest = behind_blanks(bytes);
     while !rest.is_empty() {
-        let (token, behind) = first_token(rest).ok_or(DocFault::REFUSED)?;
+        let (token, behind) = first_token(rest).ok_or(REFUSED)?;
         tokens.push(token)?;
         rest = behind_blanks(behind);
     }

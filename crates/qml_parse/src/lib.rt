@@ -6,18 +6,15 @@
 mod builder;
 pub mod document;
 mod draft;
-pub mod fault;
+mod fault;
 pub mod laws;
 mod lexer;
-pub mod name;
 mod part;
 pub mod reader;
 pub mod token;
 
 pub use document::{Document, RectDecl};
-pub use fault::{DocFault, LoadFault, Span};
 pub use laws::one_reading;
-pub use name::Name;
 pub use reader::parse;
 
 #[cfg(test)]

@@ -5,8 +5,8 @@ ghost use Rattle.qml_parse.specs.Meaning.{IsDocument};
 
 use crate::builder::build;
 use crate::document::Document;
-use crate::fault::DocFault;
 use crate::lexer::tokens_of;
+use qml_ast::DocFault;
 use std::alloc::Global;
 
 /// Reads a document of at most 2^31 bytes.

@@ -1,9 +1,8 @@
 //! Texts with the objects that they are expected to have, worked out by hand from the language's rules.
 
 use crate::document::RectDecl;
-use crate::fault::{DocFault, Span};
-use crate::name::Name;
 use crate::reader::parse;
+use qml_ast::{DocFault, Span};
 use std::alloc::Global;
 use std::process::Abort;
 use std::test::Fail;
@@ -134,13 +133,5 @@ fn levels(rt: HostRuntime) -> Result<(), Fail> {
     assert!(rt; most.len() <= 0x8000_0000);
     assert_eq!(rt; parse(alloc, most.as_bytes())?.objects().len(), 64);
     assert!(rt; refuses(&rt, alloc, nested(alloc, 65)?.as_bytes()));
-    Ok(())
-}
-
-#[test]
-fn names(rt: HostRuntime) -> Result<(), Fail> {
-    let name = Name::new(rt.alloc(), "Überall.qml")?;
-    assert_eq!(rt; name.as_str(), "Überall.qml");
-    assert_eq!(rt; name.as_bytes(), b"\xc3\x9cberall.qml".as_slice());
     Ok(())
 }

@@ -5,8 +5,8 @@ use Rattle.std.specs.FinMap.{get}
 use Rattle.std.specs.Io.KnownBytes.{Appends}
 use Rattle.outside.specs.Bytes.{AppendsPart}
 use Rattle.outside.specs.Store.{Store}
-use Rattle.qml_parse.specs.declared.fault.LoadFault.{LoadFault}
-use Rattle.qml_parse.specs.declared.fault.LoadFault.TheVariants as load
+use Rattle.qml_ast.specs.declared.fault.LoadFault.{LoadFault}
+use Rattle.qml_ast.specs.declared.fault.LoadFault.TheVariants as load
 use Rattle.qml_parse.specs.Meaning.{flattened}
 use Rattle.qml_parse.specs.Tree.{Members}
 use Rattle.rect_raster.specs.Picture.{Picture, ppm}
@@ -103,6 +103,10 @@ no_fault : (main : List ℕ) (file : Option (List ℕ)) (tree : Members) (fault 
 no_fault main None tree fault has named bad = has
 no_fault main (Some bytes) tree (load.Missing name) has named bad = cc
 no_fault main (Some bytes) tree (load.TooLong name) has named bad = omega arith
+no_fault main (Some bytes) tree load.TooMany has named bad = named
+no_fault main (Some bytes) tree (load.Cycle name) has named bad = named
+no_fault main (Some bytes) tree load.Read has named bad = named
+no_fault main (Some bytes) tree load.NoMemory has named bad = named
 no_fault main (Some bytes) tree (load.Doc name fault) has named bad = bad.1 (flattened None 0 tree) (tree, has.1, has.2, refl)
 
 -- with sound files nothing is refused

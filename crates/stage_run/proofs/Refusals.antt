@@ -4,19 +4,21 @@ use Rattle.std.specs.Prelude.{IfSome, IfErr, Result, Ok, Err}
 use Rattle.std.specs.FinMap.{get}
 use Rattle.outside.specs.Store.{Store}
 use Rattle.qml_parse.specs.declared.document.RectDecl.{RectDecl}
-use Rattle.qml_parse.specs.declared.fault.DocFault.TheVariants as doc
-use Rattle.qml_parse.specs.declared.fault.LoadFault.{LoadFault}
-use Rattle.qml_parse.specs.declared.fault.LoadFault.TheVariants as load
-use Rattle.qml_parse.specs.declared.fault.Span.{Span}
+use Rattle.qml_ast.specs.declared.fault.DocFault.{DocFault}
+use Rattle.qml_ast.specs.declared.fault.DocFault.TheVariants as doc
+use Rattle.qml_ast.specs.declared.fault.LoadFault.{LoadFault}
+use Rattle.qml_ast.specs.declared.fault.LoadFault.TheVariants as load
+use Rattle.qml_ast.specs.declared.span.Span.{Span}
+use Rattle.qml_parse.specs.Answers.{Reads, IsRefusal}
 use Rattle.qml_parse.specs.Meaning.{IsDocument}
 use Rattle.stage_run.specs.declared.sources.Flaw.TheVariants as flaw
 use Rattle.stage_run.specs.declared.status.Status.{Status}
 use Rattle.stage_run.specs.declared.status.Status.TheVariants as status
 use Rattle.stage_run.specs.Causes.{document_limit, HasNoTree, HasFault, IsFaultOf, RefusesDocument}
-use Rattle.stage_run.specs.Flaws.{IsFlawOf, RefusesBytes}
+use Rattle.stage_run.specs.Flaws.{IsFlawOf, IsRefusalFor, RefusesBytes}
 
 -- bytes that the reader refused
-pub refused-bytes : (name bytes : List ℕ) (at : Span) (s : Status) → IsFlawOf name (flaw.Unsupported at) s → at ≡ record { line = 1; col = 1 } → ((d : List RectDecl) → IsDocument bytes d → ⊥) → RefusesBytes name bytes s
+refused-bytes : (name bytes : List ℕ) (at : Span) (s : Status) → IsFlawOf name (flaw.Doc (doc.Unsupported at)) s → at ≡ record { line = 1; col = 1 } → ((d : List RectDecl) → IsDocument bytes d → ⊥) → RefusesBytes name bytes s
 refused-bytes name bytes at status.Done told first other = told
 refused-bytes name bytes at status.Usage told first other = told
 refused-bytes name bytes at (status.BadScript line) told first other = told
@@ -24,6 +26,12 @@ refused-bytes name bytes at (status.BadDocument fault) told first other = (told 
 refused-bytes name bytes at status.ReadFault told first other = told
 refused-bytes name bytes at status.WriteFault told first other = told
 refused-bytes name bytes at status.NoMemory told first other = tt
+
+-- bytes that the reader refused by this fault
+pub refused-by : (name bytes : List ℕ) (fault : DocFault) (s : Status) → IsRefusalFor name fault s → IsRefusal fault → ((d : List RectDecl) → IsDocument bytes d → Reads (Err fault) d) → RefusesBytes name bytes s
+refused-by name bytes (doc.Unsupported at) s told first other = refused-bytes name bytes at s told first other
+refused-by name bytes doc.NoMemory s told first other = subst (RefusesBytes name bytes) (sym told) tt
+refused-by name bytes _ s told first other = absurd first
 
 -- a fault of one text of this name
 one_fault : (held : Option Store) (name bytes : List ℕ) (fault : LoadFault) → fault ≡ load.Doc name (doc.Unsupported (record { line = 1; col = 1 })) → ((d : List RectDecl) → IsDocument bytes d → ⊥)

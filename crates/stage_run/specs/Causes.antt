@@ -6,10 +6,10 @@ use Rattle.outside.specs.Bytes.{AppendsPart}
 use Rattle.outside.specs.Count.{Rose}
 use Rattle.outside.specs.Store.{Store}
 use Rattle.qml_parse.specs.declared.document.RectDecl.{RectDecl}
-use Rattle.qml_parse.specs.declared.fault.DocFault.{DocFault}
-use Rattle.qml_parse.specs.declared.fault.DocFault.TheVariants as doc
-use Rattle.qml_parse.specs.declared.fault.LoadFault.{LoadFault}
-use Rattle.qml_parse.specs.declared.fault.LoadFault.TheVariants as load
+use Rattle.qml_ast.specs.declared.fault.DocFault.{DocFault}
+use Rattle.qml_ast.specs.declared.fault.DocFault.TheVariants as doc
+use Rattle.qml_ast.specs.declared.fault.LoadFault.{LoadFault}
+use Rattle.qml_ast.specs.declared.fault.LoadFault.TheVariants as load
 use Rattle.qml_parse.specs.Grammar.{IsSpelled}
 use Rattle.qml_parse.specs.Meaning.{IsLawfulTree, IsDocument}
 use Rattle.qml_parse.specs.Tree.{Members}
@@ -57,14 +57,22 @@ IsTooLong (Some bytes) = document_limit < length bytes
 abbrev pub IsFaultOf : List ℕ → LoadFault → Type 0
 IsFaultOf main (load.Missing name) = name ≡ main
 IsFaultOf main (load.TooLong name) = name ≡ main
-IsFaultOf main (load.Doc name doc.NoMemory) = ⊥
 IsFaultOf main (load.Doc name (doc.Unsupported at)) = (name ≡ main) × (at ≡ record { line = 1; col = 1 })
+IsFaultOf main (load.Doc name _) = ⊥
+IsFaultOf main load.TooMany = ⊥
+IsFaultOf main (load.Cycle name) = ⊥
+IsFaultOf main load.Read = ⊥
+IsFaultOf main load.NoMemory = ⊥
 
 -- the file has this fault
 abbrev pub HasFault : Option (List ℕ) → LoadFault → Type 0
 HasFault file (load.Missing name) = file ≡ None
 HasFault file (load.TooLong name) = IsTooLong file
 HasFault file (load.Doc name fault) = HasNoTree file
+HasFault file load.TooMany = ⊥
+HasFault file (load.Cycle name) = ⊥
+HasFault file load.Read = ⊥
+HasFault file load.NoMemory = ⊥
 
 -- where the files are told, the script has `count` commands and the document is this tree
 abbrev pub Accepts : Option Store → List (List ℕ) → ℕ → Members → Type 0

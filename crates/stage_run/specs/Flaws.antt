@@ -3,9 +3,10 @@ use Rattle.std.specs.Prelude.{◌≡◌, ℕ, ◌≤◌, List, Option}
 use Rattle.outside.specs.Bytes.{AppendsPart}
 use Rattle.outside.specs.Count.{Rose}
 use Rattle.qml_parse.specs.declared.document.RectDecl.{RectDecl}
-use Rattle.qml_parse.specs.declared.fault.DocFault.TheVariants as doc
-use Rattle.qml_parse.specs.declared.fault.LoadFault.{LoadFault}
-use Rattle.qml_parse.specs.declared.fault.LoadFault.TheVariants as load
+use Rattle.qml_ast.specs.declared.fault.DocFault.{DocFault}
+use Rattle.qml_ast.specs.declared.fault.DocFault.TheVariants as doc
+use Rattle.qml_ast.specs.declared.fault.LoadFault.{LoadFault}
+use Rattle.qml_ast.specs.declared.fault.LoadFault.TheVariants as load
 use Rattle.qml_parse.specs.Meaning.{IsDocument}
 use Rattle.stage_run.specs.declared.journal.Move.{Move}
 use Rattle.stage_run.specs.declared.sources.Flaw.{Flaw}
@@ -30,7 +31,7 @@ IsBadScriptAt bytes status.NoMemory = ⊥
 abbrev pub fault_of : List ℕ → Flaw → LoadFault
 fault_of name flaw.Missing = load.Missing name
 fault_of name flaw.TooLong = load.TooLong name
-fault_of name (flaw.Unsupported at) = load.Doc name (doc.Unsupported at)
+fault_of name (flaw.Doc fault) = load.Doc name fault
 
 -- the status tells the flaw, unless memory ran out
 abbrev pub IsFlawOf : List ℕ → Flaw → Status → Type 0
@@ -41,6 +42,11 @@ IsFlawOf name found (status.BadDocument fault) = fault ≡ fault_of name found
 IsFlawOf name found status.ReadFault = ⊥
 IsFlawOf name found status.WriteFault = ⊥
 IsFlawOf name found status.NoMemory = Unit {0}
+
+-- the status tells the reader's fault
+abbrev pub IsRefusalFor : List ℕ → DocFault → Status → Type 0
+IsRefusalFor name doc.NoMemory answer = answer ≡ status.NoMemory
+IsRefusalFor name fault answer = IsFlawOf name (flaw.Doc fault) answer
 
 -- the bytes are no document, which the status says at line 1, column 1, unless memory ran out
 abbrev pub RefusesBytes : List ℕ → List ℕ → Status → Type 0

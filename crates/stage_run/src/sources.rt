@@ -3,13 +3,14 @@ ghost use Rattle.std.specs.FinMap.{get};
 ghost use Rattle.qml_parse.specs.Tree.{Members};
 ghost use Rattle.qml_parse.specs.Meaning.{flattened, IsDocument};
 ghost use Rattle.stage_run.specs.Causes.{HasScript, HasTree, RefusesScript, RefusesDocument};
-ghost use Rattle.stage_run.specs.Flaws.{IsBadScriptAt, RefusesBytes, IsFlawOf};
+ghost use Rattle.stage_run.specs.Flaws.{IsBadScriptAt, RefusesBytes, IsFlawOf, IsRefusalFor};
 ghost use Rattle.stage_run.specs.Script.{IsScript};
 
 use crate::script::read_script;
 use crate::status::Status;
 use outside::{Fetch, Files};
-use qml_parse::{DocFault, Document, LoadFault, Name, Span, parse};
+use qml_ast::{DocFault, LoadFault, Name};
+use qml_parse::{Document, parse};
 use std::alloc::Global;
 
 /// The most bytes that a script may have.
@@ -79,8 +80,18 @@ fn document_of(alloc: Global, name: &str, bytes: &[u8]) -> Result<Document, Stat
 {
     match parse(alloc, bytes) {
         Ok(document) => Ok(document),
-        Err(DocFault::NoMemory) => Err(Status::NoMemory),
-        Err(DocFault::Unsupported { at }) => Err(bad_document(alloc, name, Flaw::Unsupported(at))),
+        Err(fault) => Err(refusal_of(alloc, name, fault)),
+    }
+}
+
+/// What the reader's fault means for the run.
+fn refusal_of(alloc: Global, name: &str, fault: DocFault) -> Status
+    requires { length name.now ≤ 65536 }
+    ensures { IsRefusalFor name.now fault result }
+{
+    match fault {
+        DocFault::NoMemory => Status::NoMemory,
+        fault => bad_document(alloc, name, Flaw::Doc(fault)),
     }
 }
 
@@ -89,7 +100,7 @@ fn document_of(alloc: Global, name: &str, bytes: &[u8]) -> Result<Document, Stat
 enum Flaw {
     Missing,
     TooLong,
-    Unsupported(Span),
+    Doc(DocFault),
 }
 
 fn bad_document(alloc: Global, name: &str, flaw: Flaw) -> Status
@@ -102,10 +113,7 @@ fn bad_document(alloc: Global, name: &str, flaw: Flaw) -> Status
     let fault = match flaw {
         Flaw::Missing => LoadFault::Missing { name },
         Flaw::TooLong => LoadFault::TooLong { name },
-        Flaw::Unsupported(at) => LoadFault::Doc {
-            name,
-            fault: DocFault::Unsupported { at },
-        },
+        Flaw::Doc(fault) => LoadFault::Doc { name, fault },
     };
     Status::BadDocument { fault }
 }

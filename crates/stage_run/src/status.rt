@@ -1,8 +1,8 @@
 ghost use Rattle.std.specs.Prelude.{◌≡◌, ◌++◌, List, IfOk, codes, decimal, string_bytes};
-ghost use Rattle.stage_run.specs.StatusLine.{doc_fault_text, load_fault_text, line_of, exit_code};
+ghost use Rattle.stage_run.specs.StatusLine.{at_place, doc_fault_text, load_fault_text, line_of, exit_code};
 ghost use Rattle.stage_run.specs.declared.status.Status.TheVariants as statuses;
 
-use qml_parse::{DocFault, LoadFault};
+use qml_ast::{DocFault, LoadFault, Span};
 use std::alloc::{AllocError, Global};
 
 /// How a run ended.
@@ -70,20 +70,45 @@ fn load_fault_line(alloc: Global, fault: &LoadFault) -> Result<Vec<u8>, AllocErr
             "qmlstage: {}: too long\n",
             name.as_str()
         )?.into_bytes()),
+        LoadFault::TooMany => bytes_of(alloc, "qmlstage: too many documents\n"),
+        LoadFault::Cycle { name } => Ok(format!(in alloc;
+            "qmlstage: {}: cycle\n",
+            name.as_str()
+        )?.into_bytes()),
         LoadFault::Doc { name, fault } => {
-            let place = doc_fault_line(alloc, *fault)?;
-            Ok(format!(in alloc; "qmlstage: {}{}", name.as_str(), place.as_str())?.into_bytes())
+            let what = doc_fault_line(alloc, *fault)?;
+            Ok(format!(in alloc; "qmlstage: {}{}", name.as_str(), what.as_str())?.into_bytes())
         }
+        LoadFault::Read => bytes_of(alloc, "qmlstage: read fault\n"),
+        LoadFault::NoMemory => bytes_of(alloc, "qmlstage: no memory\n"),
     }
 }
 
+/// What stands behind a document's name: a place and a word, or the first byte that is not UTF-8.
 fn doc_fault_line(alloc: Global, fault: DocFault) -> Result<String, AllocError>
     ensures { IfOk result (λ text. string_bytes text ≡ doc_fault_text fault) }
 {
     match fault {
-        DocFault::Unsupported { at } => format!(in alloc; ":{}:{}: unsupported\n", at.line, at.col),
+        DocFault::NotUtf8 { at } => format!(in alloc; ": not UTF-8 at byte {at}\n"),
+        DocFault::BadToken { at } => at_place(alloc, at, "bad token"),
+        DocFault::Syntax { at } => at_place(alloc, at, "syntax"),
+        DocFault::TooDeep { at } => at_place(alloc, at, "too deep"),
+        DocFault::Unsupported { at } => at_place(alloc, at, "unsupported"),
+        DocFault::UnknownType { at } => at_place(alloc, at, "unknown type"),
+        DocFault::UnknownProperty { at } => at_place(alloc, at, "unknown property"),
+        DocFault::BadId { at } => at_place(alloc, at, "bad id"),
+        DocFault::DuplicateId { at } => at_place(alloc, at, "duplicate id"),
+        DocFault::DuplicateName { at } => at_place(alloc, at, "duplicate name"),
+        DocFault::WrongLiteral { at } => at_place(alloc, at, "wrong literal"),
+        DocFault::ReadOnly { at } => at_place(alloc, at, "read only"),
         DocFault::NoMemory => String::from_str(alloc, ": no memory\n"),
     }
+}
+
+fn at_place(alloc: Global, at: Span, what: &str) -> Result<String, AllocError>
+    ensures { IfOk result (λ text. string_bytes text ≡ at_place at what.now) }
+{
+    format!(in alloc; ":{}:{}: {what}\n", at.line, at.col)
 }
 
 /// The exit status of the process: 0 at `Done`, else 2 to 7 in the order of the statuses.

@@ -1,4 +1,4 @@
-use Rattle.std.proofs.Common.{◌≡◌, length, take}
+use Rattle.std.proofs.Common.{◌≡◌, take}
 use Rattle.qml_ast.proofs.expr.+is_expr.Given as goal
 
 abbrev pub invariant-are_same-loop-i : goal.invariant-are_same-loop-i

@@ -1,0 +1,13 @@
+pub mod Behind
+pub mod Complete
+pub mod Failing
+pub mod First
+pub mod Growing
+pub mod Local
+pub mod LocalExpressions
+pub mod LocalLoops
+pub mod LocalTokens
+pub mod Reading
+pub mod Sound
+pub mod Strength
+pub mod Tools

@@ -1,0 +1,29 @@
+-- What it means that the first fault depends on the tokens up to it alone.
+use Rattle.std.specs.Prelude.{◌≡◌, ℕ, List, Err}
+use Rattle.qml_ast.specs.declared.fault.DocFault.{DocFault}
+use Rattle.qml_ast.specs.declared.fault.DocFault.TheVariants.{Syntax, TooDeep, Unsupported}
+use Rattle.qml_ast.specs.declared.span.Span.{Span}
+use Rattle.qml_grammar.specs.Inputs.{Input, Parser, ahead, place}
+use Rattle.qml_grammar.specs.Lexemes.{Token}
+use Rattle.grammar_laws.specs.Laws.{Way}
+
+-- the fault stands at this place
+pub data IsFaultAt (fault : DocFault) (at : Span) : Type 0 where
+  syntax : fault ≡ Syntax at → IsFaultAt fault at
+  unsupported : fault ≡ Unsupported at → IsFaultAt fault at
+  deep : fault ≡ TooDeep at → IsFaultAt fault at
+
+-- both have the same token next, the same end and the same number of nodes
+pub record IsLike (l at : Input) : Type 0 where
+  pub ahead : ahead l ≡ ahead at
+  pub end : l.end ≡ at.end
+  pub nodes : l.nodes ≡ at.nodes
+
+-- the fault stands at a token, or at the end, and is that of every input with the same tokens up to there
+pub record FaultsAt {A : Type 0} (read : Parser A) (i : Input) (fault : DocFault) : Type 0 where
+  pub nodes : ℕ
+  pub text : List Token
+  pub at : Input
+  pub way : Way i at nodes text
+  pub place : IsFaultAt fault (place at)
+  pub alike : (k l : Input) → Way k l nodes text → IsLike l at → read k ≡ Err fault

@@ -1,0 +1,12 @@
+pub mod Places
+mod Pools
+mod Linking
+mod Walking
+mod Neighbours
+mod Relinking
+mod Putting
+mod Taking
+mod Ending
+mod Moves
+mod Numbers
+mod Calls

@@ -1,0 +1,12 @@
+use Rattle.links.proofs.Moves.{AreDisjoint-StandFor}
+use Rattle.links.proofs.Numbers.{StandFor-free_cell}
+use Rattle.links.proofs.links.Links.free_cell.Goals as goal
+
+pub invariant_of-self : goal.invariant_of-self
+invariant_of-self c = (StandFor-free_cell c.self.inside.cells c.self.inside.lists c.self.invariant c.args.cell _ (rw (← c.self.view_is) at c.requires.cell) (rw (← c.self.view_is) at c.requires.loose) c.remove.ensures).holds
+
+pub returns-clause-after : goal.returns-clause-after
+returns-clause-after c = rw (← c.self.view_is) (StandFor-free_cell c.self.inside.cells c.self.inside.lists c.self.invariant c.args.cell _ (rw (← c.self.view_is) at c.requires.cell) (rw (← c.self.view_is) at c.requires.loose) c.remove.ensures).shown
+
+pub returns-clause-disjoint : goal.returns-clause-disjoint
+returns-clause-disjoint c = AreDisjoint-StandFor (StandFor-free_cell c.self.inside.cells c.self.inside.lists c.self.invariant c.args.cell _ (rw (← c.self.view_is) at c.requires.cell) (rw (← c.self.view_is) at c.requires.loose) c.remove.ensures)

@@ -1,0 +1,10 @@
+pub mod Inside
+pub mod Placing
+pub mod Capping
+pub mod Steps
+pub mod OneReading
+pub mod LongestMark
+pub mod Order
+pub mod Words
+pub mod Utf8
+pub mod Spelling

@@ -1,0 +1,12 @@
+use Rattle.std.proofs.Common.{◌≡◌, ◌+◌, ◌-◌, ◌≤◌, length, drop}
+use Rattle.std.specs.List.{prefix_len}
+use Rattle.qml_lex.specs.Bytes.{is_word}
+use Rattle.qml_lex.proofs.bytes.word_len.Given as goal
+
+-- what is passed and the front of what is left are the front of all
+abbrev pub invariant-loop-at : goal.invariant-loop-at
+invariant-loop-at l =
+    (l.at ≤ length l.text) × (l.at + prefix_len is_word (drop l.at l.text) ≡ prefix_len is_word l.text)
+
+abbrev pub decreases-loop-at : goal.decreases-loop-at
+decreases-loop-at l = length l.text - l.at

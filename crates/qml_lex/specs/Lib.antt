@@ -1,0 +1,9 @@
+pub mod Bytes
+pub mod Laws
+pub mod Marks
+pub mod Meaning
+pub mod Numbers
+pub mod Pieces
+pub mod Places
+pub mod Reading
+pub mod Texts
