@@ -109,7 +109,7 @@ impl<'a> Cursor<'a> {
     }
 
     /// The expression that the next token alone is, if it is one.
-    pub fn atom(&self, alloc: Global) -> Result<Option<Boxed<Expr>>, AllocError>
+    pub(crate) fn atom(&self, alloc: Global) -> Result<Option<Boxed<Expr>>, AllocError>
         ensures { IfOk result (λ atom. atom ≡ atom_of (spec.ahead (input_of self.now))) }
     {
         match self.rest {
@@ -119,7 +119,7 @@ impl<'a> Cursor<'a> {
     }
 
     /// The operator that the next token is before its operand, if it is one.
-    pub fn unary_operator(&self) -> Option<UnOp>
+    pub(crate) fn unary_operator(&self) -> Option<UnOp>
         ensures { result ≡ looked_up unary_operator (spec.ahead (input_of self.now)) }
     {
         match self.rest {
@@ -134,7 +134,7 @@ impl<'a> Cursor<'a> {
     }
 
     /// The operator of a level that the next token is between operands, if it is one but `&&` and `||`.
-    pub fn operator(&self, precedence: Precedence) -> Option<BinOp>
+    pub(crate) fn operator(&self, precedence: Precedence) -> Option<BinOp>
         ensures { result ≡ looked_up (table_at precedence) (spec.ahead (input_of self.now)) }
     {
         match self.rest {
@@ -147,7 +147,7 @@ impl<'a> Cursor<'a> {
     }
 
     /// Whether the next token is an operator of the level.
-    pub fn begins(&self, precedence: Precedence) -> bool
+    pub(crate) fn begins(&self, precedence: Precedence) -> bool
         ensures { result ≡ begins_at precedence (spec.ahead (input_of self.now)) }
     {
         match precedence {
@@ -160,7 +160,7 @@ impl<'a> Cursor<'a> {
     }
 
     /// Whether a member or a call follows, behind what has it.
-    pub fn begins_postfix(&self) -> bool
+    pub(crate) fn begins_postfix(&self) -> bool
         ensures { result ≡ begins_postfix (spec.ahead (input_of self.now)) }
     {
         self.sees(Mark::Dot) || self.sees(Mark::OpenParen)
@@ -177,7 +177,7 @@ impl<'a> Cursor<'a> {
 
     /// Goes behind the next token, which begins a node. The fault is `TooDeep` where the expression may
     /// have no more nodes.
-    pub fn take_node(&mut self) -> Result<(), DocFault>
+    pub(crate) fn take_node(&mut self) -> Result<(), DocFault>
         ensures { IsReading (spec.take_node (input_of self.old)) result (input_of self.new) }
     {
         if self.nodes == 0 {

@@ -3,17 +3,17 @@
 //! what the grammar's definition reads.
 #![tactic(auto)]
 
-pub mod cursor;
-pub mod lexeme;
-pub mod natural;
+mod cursor;
+mod lexeme;
+mod natural;
 pub mod parser;
-pub mod precedence;
-pub mod token;
+mod precedence;
+mod token;
 
 pub use cursor::Cursor;
 pub use lexeme::Lexeme;
 pub use natural::Natural;
-pub use parser::{expression, whole_expression};
+pub use parser::{expression, member, whole_expression};
 pub use token::Token;
 
 #[cfg(test)]

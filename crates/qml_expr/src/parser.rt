@@ -16,10 +16,13 @@ use std::alloc::{AllocError, Global};
 /// How many nodes an outermost expression may have.
 const MAX_NODES: u32 = 200;
 
-/// The longest expression that the tokens begin with, of at most 200 nodes, and goes behind it. `levels`
-/// more levels may be opened in it. How many nodes the cursor allows stays as it was. The first fault
-/// has its place: `Syntax` and `Unsupported` at a token that cannot stand there, `TooDeep` at one that
-/// opens a level or is a node too many; or `NoMemory`.
+/// Reads the longest expression that the tokens begin with, of at most 200 nodes, and goes behind it.
+/// `levels` more levels may be opened in it: by parentheses, the arguments of a call, an operator before
+/// its operand, or the branches behind a `?`. How many nodes the cursor allows stays as it was.
+///
+/// The first fault has its place: `Syntax` at a token that cannot stand there, `Unsupported` where QML
+/// has that token and the engine has not, `TooDeep` at a token that opens a level or is a node too many.
+/// `NoMemory` comes where memory runs out. Nothing is told of the cursor after a fault.
 #[tactic(auto, unfolding(qml_grammar::specs::Expressions::whole, crate::specs::Seen::input_of))]
 pub fn whole_expression(
     alloc: Global,
@@ -35,9 +38,9 @@ pub fn whole_expression(
     Ok(read)
 }
 
-/// The longest expression that the tokens begin with, inside another one, and goes behind it. `levels`
-/// more levels may be opened in it, and it has as many nodes as the cursor allows. Faults are as of
-/// `whole_expression`.
+/// Reads the longest expression that the tokens begin with, as a part of another one, and goes behind
+/// it. `levels` more levels may be opened in it, and the cursor allows fewer nodes by those that it has.
+/// Faults are as of `whole_expression`.
 #[tactic(auto, unfolding(qml_grammar::specs::Expressions::expr, qml_grammar::specs::Expressions::expr_in, qml_grammar::specs::Expressions::conditional))]
 #[cycle(expression)]
 pub fn expression(
@@ -275,9 +278,11 @@ fn postfix(
     call(alloc, levels, object, cursor)
 }
 
-// `.` and a name, behind what has the member.
+/// Reads `.` and a name behind what has the member, and goes behind them. The fault is `TooDeep` at the
+/// first token where the cursor allows no node, the refusal of a second one that is no name, or
+/// `NoMemory`.
 #[tactic(auto, unfolding(qml_grammar::specs::Expressions::member))]
-fn member(
+pub fn member(
     alloc: Global,
     object: Boxed<Expr>,
     cursor: &mut Cursor<'_>,

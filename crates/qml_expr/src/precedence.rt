@@ -6,7 +6,7 @@ use qml_grammar::Mark;
 
 /// A level of operators between operands, from those that bind tightest on.
 #[derive(Clone, Copy, Debug, PartialEq, Eq)]
-pub enum Precedence {
+pub(crate) enum Precedence {
     /// `*`, `/` and `%`.
     Product,
     /// `+` and `-`.
@@ -23,7 +23,7 @@ pub enum Precedence {
 
 /// What stands between two operands.
 #[derive(Clone, Copy, Debug, PartialEq, Eq)]
-pub enum Joint {
+pub(crate) enum Joint {
     Operator(BinOp),
     /// `&&`
     Both,
@@ -33,7 +33,7 @@ pub enum Joint {
 
 impl Precedence {
     /// The operator that a mark is at this level, if it is one but `&&` and `||`.
-    pub fn operator(self, mark: Mark) -> Option<BinOp>
+    pub(crate) fn operator(self, mark: Mark) -> Option<BinOp>
         ensures { result ≡ table_at self mark }
     {
         match (self, mark) {

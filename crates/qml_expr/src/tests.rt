@@ -112,9 +112,7 @@ fn operator_text(operator: BinOp) -> &'static str {
 }
 
 /// The text of two operands and what stands between them.
-fn pair(alloc: Global, left: &Expr, between: &str, right: &Expr) -> Result<String, AllocError> {
-    let left = shown(alloc, left)?;
-    let right = shown(alloc, right)?;
+fn pair(alloc: Global, left: String, between: &str, right: String) -> Result<String, AllocError> {
     format!(in alloc; "({left} {between} {right})")
 }
 
@@ -148,10 +146,20 @@ fn shown(alloc: Global, expr: &Expr) -> Result<String, AllocError> {
             format!(in alloc; "({operator} {operand})")
         }
         Expr::Binary(operator, left, right) => {
-            pair(alloc, left.get(), operator_text(*operator), right.get())
+            let left = shown(alloc, left.get())?;
+            let right = shown(alloc, right.get())?;
+            pair(alloc, left, operator_text(*operator), right)
         }
-        Expr::And(left, right) => pair(alloc, left.get(), "&&", right.get()),
-        Expr::Or(left, right) => pair(alloc, left.get(), "||", right.get()),
+        Expr::And(left, right) => {
+            let left = shown(alloc, left.get())?;
+            let right = shown(alloc, right.get())?;
+            pair(alloc, left, "&&", right)
+        }
+        Expr::Or(left, right) => {
+            let left = shown(alloc, left.get())?;
+            let right = shown(alloc, right.get())?;
+            pair(alloc, left, "||", right)
+        }
         Expr::Cond(condition, then, otherwise) => {
             let condition = shown(alloc, condition.get())?;
             let then = shown(alloc, then.get())?;
