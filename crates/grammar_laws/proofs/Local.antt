@@ -116,7 +116,7 @@ pub data Chosen {B R : Type 0} (o : Option B) (f : B → R) (z y : R) : Type 0 w
   chosen : (w : B) → o ≡ Some w → f w ≡ y → Chosen o f z y
   not_chosen : o ≡ None → z ≡ y → Chosen o f z y
 
-chosen_in : {B R : Type 0} (o : Option B) (f : B → R) (z y : R) → ◌≡◌ {A = R} (elim o [ Some w ↦ f w | None ↦ z ]) y → Chosen o f z y
+pub chosen_in : {B R : Type 0} (o : Option B) (f : B → R) (z y : R) → ◌≡◌ {A = R} (elim o [ Some w ↦ f w | None ↦ z ]) y → Chosen o f z y
 chosen_in (Some w) f z y h = chosen w refl h
 chosen_in None f z y h = not_chosen refl h
 

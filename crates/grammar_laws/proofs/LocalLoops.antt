@@ -27,7 +27,7 @@ record LoopErr {A : Type 0} (test : Option Token → Bool) (step : A → Parser 
 
 -- How a loop failed
 
-data Stuck {A : Type 0} (test : Option Token → Bool) (step : A → Parser A) (n : ℕ) (x : A) (i : Input) (e : DocFault) : Type 0 where
+pub data Stuck {A : Type 0} (test : Option Token → Bool) (step : A → Parser A) (n : ℕ) (x : A) (i : Input) (e : DocFault) : Type 0 where
   now : test (ahead i) ≡ true → step x i ≡ Err e → Stuck test step n x i e
   later : (z : A) (k : Input) → test (ahead i) ≡ true → step x i ≡ Ok (z, k) → repeated test step n z k ≡ Err e → Stuck test step n x i e
 
@@ -39,16 +39,16 @@ stuck_from : {A : Type 0} (test : Option Token → Bool) (step : A → Parser A)
 stuck_from test step n x i e true t h = stuck_by test step n x i e t (step x i) refl h
 stuck_from test step n x i e false t h = absurd cc
 
-stuck_on : {A : Type 0} (test : Option Token → Bool) (step : A → Parser A) (n : ℕ) (x : A) (i : Input) (e : DocFault) → repeated test step (suc n) x i ≡ Err e → Stuck test step n x i e
+pub stuck_on : {A : Type 0} (test : Option Token → Bool) (step : A → Parser A) (n : ℕ) (x : A) (i : Input) (e : DocFault) → repeated test step (suc n) x i ≡ Err e → Stuck test step n x i e
 unfolding repeated
 stuck_on test step n x i e h = stuck_from test step n x i e (test (ahead i)) refl h
 
-some_text : {i k : Input} {n : ℕ} {ts : List Token} → Way i k n ts → length k.rest < length i.rest → 1 ≤ length ts
+pub some_text : {i k : Input} {n : ℕ} {ts : List Token} → Way i k n ts → length k.rest < length i.rest → 1 ≤ length ts
 some_text {k = k} {ts = ts} w h = omega (arith, ap length w.rest, length-append ts k.rest)
 
 module _ {A : Type 0} (test : Option Token → Bool) (step : A → Parser A) (none : test None ≡ false) (local : (x : A) → Local (step x)) (shorter : (x : A) (i : Input) (y : A) (j : Input) → test (ahead i) ≡ true → step x i ≡ Ok (y, j) → length j.rest < length i.rest) where
   -- a step is read anew, and what follows it with less fuel
-  step_anew : (x z : A) (n : ℕ) (us vs : List Token) (k m : ℕ) (l : Input) (r : Result (A × Input) DocFault) → test (ahead (behind us k (behind vs m l))) ≡ true → step x (behind us k (behind vs m l)) ≡ Ok (z, behind vs m l) → 1 ≤ length us → length ((us ++ vs) ++ l.rest) ≤ n → ((f : ℕ) → length (vs ++ l.rest) ≤ f → repeated test step f z (behind vs m l) ≡ r) → repeated test step n x (behind (us ++ vs) (k + m) l) ≡ r
+  pub step_anew : (x z : A) (n : ℕ) (us vs : List Token) (k m : ℕ) (l : Input) (r : Result (A × Input) DocFault) → test (ahead (behind us k (behind vs m l))) ≡ true → step x (behind us k (behind vs m l)) ≡ Ok (z, behind vs m l) → 1 ≤ length us → length ((us ++ vs) ++ l.rest) ≤ n → ((f : ℕ) → length (vs ++ l.rest) ≤ f → repeated test step f z (behind vs m l) ≡ r) → repeated test step n x (behind (us ++ vs) (k + m) l) ≡ r
   step_anew x z zero us vs k m l r t h some few rest = absurd (omega (arith, length-append (us ++ vs) l.rest, length-append us vs))
   step_anew x z (suc n) us vs k m l r t h some few rest =
       ap (repeated test step (suc n) x) (behind_both us vs k m l refl refl) ∙ (again (λ i. step x i) test step n x z (behind us k (behind vs m l)) (behind vs m l) t h ∙ rest n (omega (arith, length-append (us ++ vs) l.rest, length-append us vs, length-append vs l.rest)))
@@ -82,7 +82,7 @@ module _ {A : Type 0} (test : Option Token → Bool) (step : A → Parser A) (no
         })
   ]
 
-  fail_anew : (x : A) (n : ℕ) (us : List Token) (k : ℕ) (l : Input) (e : DocFault) → test (ahead (behind us k l)) ≡ true → step x (behind us k l) ≡ Err e → length (us ++ l.rest) ≤ n → repeated test step n x (behind us k l) ≡ Err e
+  pub fail_anew : (x : A) (n : ℕ) (us : List Token) (k : ℕ) (l : Input) (e : DocFault) → test (ahead (behind us k l)) ≡ true → step x (behind us k l) ≡ Err e → length (us ++ l.rest) ≤ n → repeated test step n x (behind us k l) ≡ Err e
   unfolding repeated
   fail_anew x zero us k l e t h few = absurd (let f : test None ≡ true = sym (ap test (no_token (us ++ l.rest) few)) ∙ t in let g : false ≡ true = sym none ∙ f in cc)
   fail_anew x (suc n) us k l e t h few = passed _ _ t (err_then _ h)

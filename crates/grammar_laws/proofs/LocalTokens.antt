@@ -15,10 +15,10 @@ use Rattle.grammar_laws.proofs.Tools.{way_none, way_token, way_node, same_value,
 -- Faults
 
 -- the place of a token, or else the end
-abbrev place_of : Option Token → Span → Span
+abbrev pub place_of : Option Token → Span → Span
 place_of o s = elim o [ Some t ↦ t.span | None ↦ s ]
 
-abbrev failing : {A : Type 0} → (Option Token → Span → DocFault) → Parser A
+abbrev pub failing : {A : Type 0} → (Option Token → Span → DocFault) → Parser A
 failing fault i = Err (fault (ahead i) i.end)
 
 same_fault : {A : Type 0} (e f : DocFault) → ◌≡◌ {A = Result (A × Input) DocFault} (Err e) (Err f) → e ≡ f
@@ -40,10 +40,10 @@ local_failing {A = A} fault stands = record {
   err = λ i e h. failing_err fault stands i e (same_fault {A = A} (fault (ahead i) i.end) e h);
 }
 
-abbrev refusal_of : (Option Token → Bool) → Option Token → Span → DocFault
+abbrev pub refusal_of : (Option Token → Bool) → Option Token → Span → DocFault
 refusal_of foreign o s = if foreign o then Unsupported (place_of o s) else Syntax (place_of o s)
 
-refusal_stands : (b : Bool) (s : Span) → IsFaultAt (if b then Unsupported s else Syntax s) s
+pub refusal_stands : (b : Bool) (s : Span) → IsFaultAt (if b then Unsupported s else Syntax s) s
 refusal_stands true s = unsupported refl
 refusal_stands false s = syntax refl
 

@@ -1,5 +1,5 @@
 -- What it means that the first fault depends on the tokens up to it alone.
-use Rattle.std.specs.Prelude.{◌≡◌, ℕ, List, Err}
+use Rattle.std.specs.Prelude.{◌≡◌, ℕ, List, ◌++◌, Err}
 use Rattle.qml_ast.specs.declared.fault.DocFault.{DocFault}
 use Rattle.qml_ast.specs.declared.fault.DocFault.TheVariants.{Syntax, TooDeep, Unsupported}
 use Rattle.qml_ast.specs.declared.span.Span.{Span}
@@ -27,3 +27,10 @@ pub record FaultsAt {A : Type 0} (read : Parser A) (i : Input) (fault : DocFault
   pub way : Way i at nodes text
   pub place : IsFaultAt fault (place at)
   pub alike : (k l : Input) → Way k l nodes text → IsLike l at → read k ≡ Err fault
+
+-- with tokens behind these they spell something
+pub record CanGoOn {A : Type 0} (Spells : ℕ → List Token → A → Type 0) (text : List Token) : Type 0 where
+  pub others : List Token
+  pub nodes : ℕ
+  pub value : A
+  pub spelled : Spells nodes (text ++ others) value
