@@ -213,8 +213,8 @@ module _ (d : ℕ) (v : Inner) (inside : SoundInside d v) (local : LocalInside v
   unfolding operated
   operated_fails op i e t h =
       let o = ahead_gives (looked_up unary_operator) refl i op t in
-      fails_entered _ _ i (goes 1 (Lit (Int (pos 1))) [] (one ∷ []) refl (some_unary d)) (λ c d_is u k same f g.
-        fails_node _ _ k o.token (rest_at same o.rest) (goes (1 + 1) (Unary op (Lit (Int (pos 1)))) (o.token ∷ []) (one ∷ []) refl (an_operated c 1 o.token (one ∷ []) op (Lit (Int (pos 1))) d_is refl refl refl o.is (some_unary c))) (λ u2 k2 f2 g2.
+      fails_entered _ (CanGoOn (IsUnary d)) i (goes 1 (Lit (Int (pos 1))) [] (one ∷ []) refl (some_unary d)) (λ c d_is u k same f g.
+        fails_node _ (CanGoOn (IsUnary d)) k o.token (rest_at same o.rest) (goes 1 (Lit (Int (pos 1))) [] (one ∷ []) refl (some_unary d)) (λ u2 k2 f2 g2.
           fails_read v.unary _ _ k2 local.unary (inside.unary c d_is k2) (fails.unary c d_is k2)
             (λ us w. goes (1 + w.nodes) (Unary op w.value) (o.token ∷ us) w.others refl (an_operated c w.nodes o.token (us ++ w.others) op w.value d_is refl refl refl o.is w.spelled))
             (λ x l y f3 g3. pure_fails (Unary op x) _ l f3 g3) f2 g2) f g) e h
@@ -268,8 +268,8 @@ module _ (d : ℕ) (v : Inner) (inside : SoundInside d v) (local : LocalInside v
   unfolding branches
   branches_fail x i e n ts test t h =
       let o = ahead_some (is_mark Question) refl i t in
-      fails_entered _ _ i (stays n x ts (disjunction test)) (λ c d_is u k same f g.
-        fails_node _ _ k o.token (rest_at same o.rest) (first_go_on c n ts o.token [] x d_is test o.is (goes 1 (Lit (Int (pos 1))) [] (one ∷ []) refl (some_expr c))) (λ u2 k2 f2 g2.
+      fails_entered _ (λ us. CanGoOn (IsExpr d) (ts ++ us)) i (stays n x ts (disjunction test)) (λ c d_is u k same f g.
+        fails_node _ (λ us. CanGoOn (IsExpr d) (ts ++ us)) k o.token (rest_at same o.rest) (stays n x ts (disjunction test)) (λ u2 k2 f2 g2.
           fails_read v.expr _ _ k2 local.expr (inside.expr c d_is k2) (fails.expr c d_is k2) (λ us w. first_go_on c n ts o.token us x d_is test o.is w)
             (λ y k3 ys f3 g3. fails_expect Colon _ _ k3 (first_go_on c n ts o.token (ys.text ++ []) x d_is test o.is (stays ys.nodes y ys.text ys.spelled))
               (λ p p_is u4 k4 f4 g4. fails_read v.expr _ _ k4 local.expr (inside.expr c d_is k4) (fails.expr c d_is k4) (λ us w. second_go_on c n ys.nodes ts o.token ys.text p us x y d_is test o.is ys.spelled p_is w)
