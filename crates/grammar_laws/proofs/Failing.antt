@@ -1,14 +1,14 @@
 -- The first fault stands at the first token that no expression can have there: the laws as they are told.
-use Rattle.std.proofs.Common.{◌≡◌, ℕ, ◌+◌, ◌-◌, List, ◌++◌, Result, Ok, Err, refl, sym, ap, subst, ◌∙◌, arith}
+use Rattle.std.proofs.Common.{◌≡◌, ℕ, Result, Ok, Err, refl, sym, ap, ◌∙◌, arith}
 use Rattle.qml_ast.specs.declared.expr.Expr.{Expr}
 use Rattle.qml_ast.specs.declared.fault.DocFault.{DocFault}
 use Rattle.qml_grammar.specs.ExpressionGrammar.{IsExpr}
 use Rattle.qml_grammar.specs.Expressions.{expr, whole}
-use Rattle.qml_grammar.specs.Inputs.{Input, ahead}
+use Rattle.qml_grammar.specs.Inputs.{Input}
 use Rattle.grammar_laws.specs.Faults.{FaultsAt, CanGoOn, IsLike}
 use Rattle.grammar_laws.specs.Laws.{Way, Reads, ReadsWhole}
 use Rattle.grammar_laws.proofs.Behind.{behind, way_behind, same_input_by}
-use Rattle.grammar_laws.proofs.Local.{FailedIn, before, onward, bind_err, err_then}
+use Rattle.grammar_laws.proofs.Local.{before, onward, bind_err, err_then}
 use Rattle.grammar_laws.proofs.Reading.{full, reads_expr, reads_whole}
 use Rattle.grammar_laws.proofs.Viable.{FailsAt}
 use Rattle.grammar_laws.proofs.ViableExpressions.{expr_viable}
@@ -23,7 +23,8 @@ expr_faults d i e h =
       way = c.way;
       place = c.place;
       before = c.viable;
-      alike = λ k l w s. ap (expr d) (way_behind w) ∙ c.again l s }
+      alike = λ k l w s. ap (expr d) (way_behind w) ∙ c.again l s;
+    }
 
 whole_alike : (d : ℕ) (i : Input) (e : DocFault) (c : FailsAt (expr d) (CanGoOn (IsExpr d)) (full i) e) (k l : Input) → Way k l 0 c.text → IsLike l (record { rest = c.at.rest; end = c.at.end; nodes = i.nodes }) → whole d k ≡ Err e
 unfolding whole
@@ -40,7 +41,8 @@ whole_from d i e c = record {
   way = record { rest = (c.way).rest; used = omega arith; end = (c.way).end };
   place = c.place;
   before = c.viable;
-  alike = whole_alike d i e c }
+  alike = whole_alike d i e c;
+}
 
 whole_failed : (d : ℕ) (i : Input) (e : DocFault) → whole d i ≡ Err e → expr d (full i) ≡ Err e
 unfolding whole

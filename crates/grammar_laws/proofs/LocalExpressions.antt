@@ -1,4 +1,4 @@
--- What is read as an expression, and its first fault, depend on the tokens up to there alone, level by level.
+-- An expression is read by its tokens and the next one alone, level by level.
 use Rattle.std.proofs.Common.{◌≡◌, ℕ, zero, suc, ◌<◌, true, List, [], ◌∷◌, ◌++◌, length, Option, Some, None, Result, Ok, Err, inl, inr, refl, sym, subst}
 use Rattle.qml_ast.specs.declared.expr.BinOp.{BinOp}
 use Rattle.qml_ast.specs.declared.expr.Expr.{Expr}
