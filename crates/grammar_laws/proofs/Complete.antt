@@ -156,7 +156,7 @@ module _ (m : Mark) (make : Expr → Expr → Expr) (whole operand : Parser Expr
 -- Operands
 
 -- arguments without what stands around them
-abbrev listed : Inner → Parser (List Expr)
+abbrev pub listed : Inner → Parser (List Expr)
 listed v i = elim (v.expr i) [ Ok r ↦ while_next (is_mark Comma) (argument v) (r.0 ∷ []) r.1 | Err e ↦ Err e ]
 
 literal_or_name_goes : (v : Inner) (t : Token) (x : Expr) (j : Input) → atom_of (Some t) ≡ Some x → primary v (behind (t ∷ []) 1 j) ≡ Ok (x, j)

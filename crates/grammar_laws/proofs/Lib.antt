@@ -11,3 +11,5 @@ pub mod Reading
 pub mod Sound
 pub mod Strength
 pub mod Tools
+pub mod Viable
+pub mod ViableExpressions

@@ -1,9 +1,9 @@
--- Readings that depend on the tokens that they take and on the one behind them alone, or up to their fault.
+-- Readings that depend on the tokens that they take, and on the one behind them, alone.
 use Rattle.std.proofs.Common.{◌≡◌, ℕ, ◌+◌, Bool, if◌then◌else◌, List, [], ◌∷◌, ◌++◌, Option, Some, None, Result, Ok, Err, inl, inr, refl, sym, ap, ◌∙◌, arith}
 use Rattle.qml_ast.specs.declared.fault.DocFault.{DocFault}
-use Rattle.qml_grammar.specs.Inputs.{Input, Parser, ahead, place}
+use Rattle.qml_grammar.specs.Inputs.{Input, Parser, ahead}
 use Rattle.qml_grammar.specs.Lexemes.{Token}
-use Rattle.grammar_laws.specs.Faults.{IsFaultAt, IsLike}
+use Rattle.grammar_laws.specs.Faults.{IsLike}
 use Rattle.grammar_laws.specs.Laws.{Way}
 use Rattle.grammar_laws.proofs.Behind.{behind, behind_both, way_behind, ok_then, if_true, if_false, found, missing}
 use Rattle.grammar_laws.proofs.Tools.{bind_ok, way_then, if_ok}
@@ -15,18 +15,8 @@ pub record LocalOk {A : Type 0} (p : Parser A) (i j : Input) (x : A) : Type 0 wh
   pub way : Way i j nodes text
   pub again : (l : Input) → ahead l ≡ ahead j → p (behind text nodes l) ≡ Ok (x, l)
 
--- the same tokens up to the fault's have the same fault
-pub record LocalErr {A : Type 0} (p : Parser A) (i : Input) (e : DocFault) : Type 0 where
-  pub nodes : ℕ
-  pub text : List Token
-  pub at : Input
-  pub way : Way i at nodes text
-  pub place : IsFaultAt e (place at)
-  pub again : (l : Input) → IsLike l at → p (behind text nodes l) ≡ Err e
-
 pub record Local {A : Type 0} (p : Parser A) : Type 0 where
   pub ok : (i : Input) (x : A) (j : Input) → p i ≡ Ok (x, j) → LocalOk p i j x
-  pub err : (i : Input) (e : DocFault) → p i ≡ Err e → LocalErr p i e
 
 -- The next token of like inputs
 
@@ -69,24 +59,8 @@ module _ {A B : Type 0} (p : Parser A) (f : A → Parser B) (first : Local p) (s
         again = λ l s. ap (followed p f) (behind_both a.text c.text a.nodes c.nodes l refl refl) ∙ ok_then _ (a.again (behind c.text c.nodes l) (ahead_again l c.way s)) (c.again l s);
       }
 
-  then_err : (i : Input) (e : DocFault) → followed p f i ≡ Err e → LocalErr (followed p f) i e
-  then_err i e h = elim (bind_err (p i) _ _ h) [
-    | before g ↦ (let a = first.err i e g in record { nodes = a.nodes; text = a.text; at = a.at; way = a.way; place = a.place; again = λ l s. err_then _ (a.again l s) })
-    | onward x k g h2 ↦ (
-        let a = first.ok i x k g in
-        let c = (second x).err k e h2 in
-        record {
-          nodes = a.nodes + c.nodes;
-          text = a.text ++ c.text;
-          at = c.at;
-          way = way_then a.way c.way;
-          place = c.place;
-          again = λ l s. ap (followed p f) (behind_both a.text c.text a.nodes c.nodes l refl refl) ∙ ok_then _ (a.again (behind c.text c.nodes l) ((like_again l c.way s).ahead)) (c.again l s);
-        })
-  ]
-
 pub local_followed : {A B : Type 0} {p : Parser A} {f : A → Parser B} → Local p → ((x : A) → Local (f x)) → Local (followed p f)
-local_followed {p = p} {f = f} first second = record { ok = then_ok p f first second; err = then_err p f first second }
+local_followed {p = p} {f = f} first second = record { ok = then_ok p f first second }
 
 -- A reading by the next token
 
@@ -100,14 +74,8 @@ module _ {A : Type 0} (test : Option Token → Bool) (p q : Parser A) (if_so : L
     | inr a ↦ (let c = not_so.ok i x j a.1 in record { nodes = c.nodes; text = c.text; way = c.way; again = λ l s. if_false _ _ (ap test (ahead_again l c.way s) ∙ a.0) (c.again l s) })
   ]
 
-  branch_err : (i : Input) (e : DocFault) → branch test p q i ≡ Err e → LocalErr (branch test p q) i e
-  branch_err i e h = elim (if_ok (test (ahead i)) _ _ _ h) [
-    | inl a ↦ (let c = if_so.err i e a.1 in record { nodes = c.nodes; text = c.text; at = c.at; way = c.way; place = c.place; again = λ l s. if_true _ _ (ap test (ahead_again l c.way s.ahead) ∙ a.0) (c.again l s) })
-    | inr a ↦ (let c = not_so.err i e a.1 in record { nodes = c.nodes; text = c.text; at = c.at; way = c.way; place = c.place; again = λ l s. if_false _ _ (ap test (ahead_again l c.way s.ahead) ∙ a.0) (c.again l s) })
-  ]
-
 pub local_branch : {A : Type 0} (test : Option Token → Bool) {p q : Parser A} → Local p → Local q → Local (branch test p q)
-local_branch test {p = p} {q = q} if_so not_so = record { ok = branch_ok test p q if_so not_so; err = branch_err test p q if_so not_so }
+local_branch test {p = p} {q = q} if_so not_so = record { ok = branch_ok test p q if_so not_so }
 
 abbrev pub choose : {A B : Type 0} → (Option Token → Option B) → (B → Parser A) → Parser A → Parser A
 choose table p q i = elim (table (ahead i)) [ Some y ↦ p y i | None ↦ q i ]
@@ -116,7 +84,7 @@ pub data Chosen {B R : Type 0} (o : Option B) (f : B → R) (z y : R) : Type 0 w
   chosen : (w : B) → o ≡ Some w → f w ≡ y → Chosen o f z y
   not_chosen : o ≡ None → z ≡ y → Chosen o f z y
 
-chosen_in : {B R : Type 0} (o : Option B) (f : B → R) (z y : R) → ◌≡◌ {A = R} (elim o [ Some w ↦ f w | None ↦ z ]) y → Chosen o f z y
+pub chosen_in : {B R : Type 0} (o : Option B) (f : B → R) (z y : R) → ◌≡◌ {A = R} (elim o [ Some w ↦ f w | None ↦ z ]) y → Chosen o f z y
 chosen_in (Some w) f z y h = chosen w refl h
 chosen_in None f z y h = not_chosen refl h
 
@@ -127,11 +95,5 @@ module _ {A B : Type 0} (table : Option Token → Option B) (p : B → Parser A)
     | not_chosen e g ↦ (let c = not_so.ok i x j g in record { nodes = c.nodes; text = c.text; way = c.way; again = λ l s. missing _ _ (ap table (ahead_again l c.way s) ∙ e) (c.again l s) })
   ]
 
-  choose_err : (i : Input) (e : DocFault) → choose table p q i ≡ Err e → LocalErr (choose table p q) i e
-  choose_err i e h = elim (chosen_in (table (ahead i)) _ _ _ h) [
-    | chosen w o g ↦ (let c = (if_so w).err i e g in record { nodes = c.nodes; text = c.text; at = c.at; way = c.way; place = c.place; again = λ l s. found _ _ (ap table (ahead_again l c.way s.ahead) ∙ o) (c.again l s) })
-    | not_chosen o g ↦ (let c = not_so.err i e g in record { nodes = c.nodes; text = c.text; at = c.at; way = c.way; place = c.place; again = λ l s. missing _ _ (ap table (ahead_again l c.way s.ahead) ∙ o) (c.again l s) })
-  ]
-
 pub local_choose : {A B : Type 0} (table : Option Token → Option B) {p : B → Parser A} {q : Parser A} → ((y : B) → Local (p y)) → Local q → Local (choose table p q)
-local_choose table {p = p} {q = q} if_so not_so = record { ok = choose_ok table p q if_so not_so; err = choose_err table p q if_so not_so }
+local_choose table {p = p} {q = q} if_so not_so = record { ok = choose_ok table p q if_so not_so }

@@ -1,4 +1,4 @@
--- What is read as an expression, and its first fault, depend on the tokens up to there alone, level by level.
+-- An expression is read by its tokens and the next one alone, level by level.
 use Rattle.std.proofs.Common.{◌≡◌, ℕ, zero, suc, ◌<◌, true, List, [], ◌∷◌, ◌++◌, length, Option, Some, None, Result, Ok, Err, inl, inr, refl, sym, subst}
 use Rattle.qml_ast.specs.declared.expr.BinOp.{BinOp}
 use Rattle.qml_ast.specs.declared.expr.Expr.{Expr}
@@ -30,7 +30,7 @@ first_shorter {k = k} read w x j h = shorter (way_then w (read.ok k x j h).way)
 
 -- Operators between operands
 
-joined_local : (make : Expr → Expr → Expr) (operand : Parser Expr) (x : Expr) → Local operand → Local (joined make operand x)
+pub joined_local : (make : Expr → Expr → Expr) (operand : Parser Expr) (x : Expr) → Local operand → Local (joined make operand x)
 unfolding joined
 joined_local make operand x read = local_followed local_node (λ u. local_followed read (λ y. local_pure (make x y)))
 
@@ -41,7 +41,7 @@ joined_shorter make operand x read i y j o rest h =
     first_shorter (local_followed read (λ z. local_pure (make x z))) (way_node i b.at b.value o rest b.first) y j b.onward
 
 module _ (table : Mark → Option BinOp) (operand : Parser Expr) (read : Local operand) where
-  operator_local : (x : Expr) → Local (operator table operand x)
+  pub operator_local : (x : Expr) → Local (operator table operand x)
   unfolding operator
   operator_local x = local_choose (looked_up table) (λ op. joined_local (Binary op) operand x read) local_refused
 
@@ -49,69 +49,69 @@ module _ (table : Mark → Option BinOp) (operand : Parser Expr) (read : Local o
   operator_shorter_from x i y j o None rest h = absurd cc
   operator_shorter_from x i y j o (Some op) rest h = joined_shorter (Binary op) operand x read i y j o rest h
 
-  operator_shorter : (x : Expr) (i : Input) (y : Expr) (j : Input) → begins_operator table (ahead i) ≡ true → operator table operand x i ≡ Ok (y, j) → length j.rest < length i.rest
+  pub operator_shorter : (x : Expr) (i : Input) (y : Expr) (j : Input) → begins_operator table (ahead i) ≡ true → operator table operand x i ≡ Ok (y, j) → length j.rest < length i.rest
   unfolding operator
   operator_shorter x i y j t h = let a = ahead_some (begins_operator table) refl i t in operator_shorter_from x i y j a.token (looked_up table (ahead i)) a.rest h
 
-  chain_local : Local (chain table operand)
+  pub chain_local : Local (chain table operand)
   unfolding chain
   chain_local = local_followed read (local_while (begins_operator table) (operator table operand) refl operator_local operator_shorter)
 
-marks_local : (m : Mark) (make : Expr → Expr → Expr) (operand : Parser Expr) → Local operand → (x : Expr) → Local (while_next (is_mark m) (joined make operand) x)
+pub marks_local : (m : Mark) (make : Expr → Expr → Expr) (operand : Parser Expr) → Local operand → (x : Expr) → Local (while_next (is_mark m) (joined make operand) x)
 marks_local m make operand read = local_while (is_mark m) (joined make operand) refl (λ x. joined_local make operand x read) (λ x i y j t h. let a = ahead_some (is_mark m) refl i t in joined_shorter make operand x read i y j a.token a.rest h)
 
 -- Operands
 
-atom_local : Local atom
+pub atom_local : Local atom
 unfolding atom
 atom_local = local_choose atom_of (λ x. local_followed local_node (λ u. local_pure x)) local_operand_refused
 
 module _ (v : Inner) (inside : LocalInside v) where
-  parens_local : Local (parens v)
+  pub parens_local : Local (parens v)
   unfolding parens
   parens_local = local_followed inside.enter (λ u. local_followed local_token (λ w. local_followed inside.expr (λ x. local_followed (local_expect CloseParen) (λ z. local_pure x))))
 
-  primary_local : Local (primary v)
+  pub primary_local : Local (primary v)
   unfolding primary
   primary_local = local_branch (is_mark OpenParen) parens_local atom_local
 
-  member_local : (x : Expr) → Local (member x)
+  pub member_local : (x : Expr) → Local (member x)
   unfolding member
   member_local x = local_followed local_node (λ u. local_followed local_name (λ n. local_pure (Member x n)))
 
-  argument_local : (xs : List Expr) → Local (argument v xs)
+  pub argument_local : (xs : List Expr) → Local (argument v xs)
   unfolding argument
   argument_local xs = local_followed local_token (λ u. local_followed inside.expr (λ x. local_pure (xs ++ x ∷ [])))
 
-  argument_shorter : (xs : List Expr) (i : Input) (ys : List Expr) (j : Input) → is_mark Comma (ahead i) ≡ true → argument v xs i ≡ Ok (ys, j) → length j.rest < length i.rest
+  pub argument_shorter : (xs : List Expr) (i : Input) (ys : List Expr) (j : Input) → is_mark Comma (ahead i) ≡ true → argument v xs i ≡ Ok (ys, j) → length j.rest < length i.rest
   unfolding argument
   argument_shorter xs i ys j t h =
       let a = ahead_some (is_mark Comma) refl i t in
       first_shorter (local_followed inside.expr (λ x. local_pure (xs ++ x ∷ []))) (way_token a.token a.rest) ys j h
 
-  some_arguments_local : Local (some_arguments v)
+  pub some_arguments_local : Local (some_arguments v)
   unfolding some_arguments
   some_arguments_local = local_followed inside.expr (λ x. local_followed (local_while (is_mark Comma) (argument v) refl argument_local argument_shorter (x ∷ [])) (λ xs. local_followed (local_expect CloseParen) (λ u. local_pure xs)))
 
-  arguments_local : Local (arguments v)
+  pub arguments_local : Local (arguments v)
   unfolding arguments
   arguments_local = local_branch (is_mark CloseParen) (local_after []) some_arguments_local
 
-  call_local : (x : Expr) → Local (call v x)
+  pub call_local : (x : Expr) → Local (call v x)
   unfolding call
   call_local x = local_followed inside.enter (λ u. local_followed local_node (λ w. local_followed arguments_local (λ xs. local_pure (Call x xs))))
 
-  postfix_local : (x : Expr) → Local (postfix v x)
+  pub postfix_local : (x : Expr) → Local (postfix v x)
   unfolding postfix
   postfix_local x = local_branch (is_mark Dot) (member_local x) (call_local x)
 
-  member_shorter : (x : Expr) (i : Input) (y : Expr) (j : Input) (o : Token) → i.rest ≡ o ∷ tail i.rest → member x i ≡ Ok (y, j) → length j.rest < length i.rest
+  pub member_shorter : (x : Expr) (i : Input) (y : Expr) (j : Input) (o : Token) → i.rest ≡ o ∷ tail i.rest → member x i ≡ Ok (y, j) → length j.rest < length i.rest
   unfolding member
   member_shorter x i y j o rest h =
       let b = bind_ok (take_node i) _ _ h in
       first_shorter (local_followed local_name (λ n. local_pure (Member x n))) (way_node i b.at b.value o rest b.first) y j b.onward
 
-  call_shorter : (x : Expr) (i : Input) (y : Expr) (j : Input) (o : Token) → i.rest ≡ o ∷ tail i.rest → call v x i ≡ Ok (y, j) → length j.rest < length i.rest
+  pub call_shorter : (x : Expr) (i : Input) (y : Expr) (j : Input) (o : Token) → i.rest ≡ o ∷ tail i.rest → call v x i ≡ Ok (y, j) → length j.rest < length i.rest
   unfolding call
   call_shorter x i y j o rest h =
       let a = bind_ok (v.enter i) _ _ h in
@@ -120,57 +120,57 @@ module _ (v : Inner) (inside : LocalInside v) where
       let w : Way i b.at 1 (o ∷ []) = way_node i b.at b.value o rest (subst (λ k. take_node k ≡ Ok (b.value, b.at)) (sym same) b.first) in
       first_shorter (local_followed arguments_local (λ xs. local_pure (Call x xs))) w y j b.onward
 
-  postfix_shorter : (x : Expr) (i : Input) (y : Expr) (j : Input) → begins_postfix (ahead i) ≡ true → postfix v x i ≡ Ok (y, j) → length j.rest < length i.rest
+  pub postfix_shorter : (x : Expr) (i : Input) (y : Expr) (j : Input) → begins_postfix (ahead i) ≡ true → postfix v x i ≡ Ok (y, j) → length j.rest < length i.rest
   unfolding postfix
   postfix_shorter x i y j t h =
       let a = ahead_some begins_postfix refl i t in
       elim (if_ok (is_mark Dot (ahead i)) _ _ _ h) [ inl b ↦ member_shorter x i y j a.token a.rest b.1 | inr b ↦ call_shorter x i y j a.token a.rest b.1 ]
 
-  postfixes_local : Local (postfixes v)
+  pub postfixes_local : Local (postfixes v)
   unfolding postfixes
   postfixes_local = local_followed primary_local (local_while begins_postfix (postfix v) refl postfix_local postfix_shorter)
 
-  operated_local : (op : UnOp) → Local (operated v op)
+  pub operated_local : (op : UnOp) → Local (operated v op)
   unfolding operated
   operated_local op = local_followed inside.enter (λ u. local_followed local_node (λ w. local_followed inside.unary (λ x. local_pure (Unary op x))))
 
-  unary_local : Local (unary_in v)
+  pub unary_local : Local (unary_in v)
   unfolding unary_in
   unary_local = local_choose (looked_up unary_operator) operated_local postfixes_local
 
-  products_local : Local (products v)
+  pub products_local : Local (products v)
   unfolding products
   products_local = chain_local product_operator (unary_in v) unary_local
 
-  sums_local : Local (sums v)
+  pub sums_local : Local (sums v)
   unfolding sums
   sums_local = chain_local sum_operator (products v) products_local
 
-  orders_local : Local (orders v)
+  pub orders_local : Local (orders v)
   unfolding orders
   orders_local = chain_local order_operator (sums v) sums_local
 
-  equalities_local : Local (equalities v)
+  pub equalities_local : Local (equalities v)
   unfolding equalities
   equalities_local = chain_local equality_operator (orders v) orders_local
 
-  conjunctions_local : Local (conjunctions v)
+  pub conjunctions_local : Local (conjunctions v)
   unfolding conjunctions
   conjunctions_local = local_followed equalities_local (marks_local DoubleAmpersand (λ y z. And y z) (equalities v) equalities_local)
 
-  disjunctions_local : Local (disjunctions v)
+  pub disjunctions_local : Local (disjunctions v)
   unfolding disjunctions
   disjunctions_local = local_followed conjunctions_local (marks_local DoubleBar (λ y z. Or y z) (conjunctions v) conjunctions_local)
 
-  branches_local : (x : Expr) → Local (branches v x)
+  pub branches_local : (x : Expr) → Local (branches v x)
   unfolding branches
   branches_local x = local_followed inside.enter (λ u. local_followed local_node (λ w. local_followed inside.expr (λ y. local_followed (local_expect Colon) (λ c. local_followed inside.expr (λ z. local_pure (Cond x y z))))))
 
-  conditional_local : (x : Expr) → Local (conditional v x)
+  pub conditional_local : (x : Expr) → Local (conditional v x)
   unfolding conditional
   conditional_local x = local_branch (is_mark Question) (branches_local x) (local_pure x)
 
-  expr_in_local : Local (expr_in v)
+  pub expr_in_local : Local (expr_in v)
   unfolding expr_in
   expr_in_local = local_followed disjunctions_local conditional_local
 

@@ -1,60 +1,29 @@
--- Single tokens and faults depend on the next token alone.
-use Rattle.std.proofs.Common.{◌≡◌, ℕ, zero, suc, ◌+◌, Bool, true, false, if◌then◌else◌, List, [], ◌∷◌, Option, Some, None, Result, Ok, Err, refl, sym, ap, ap₂, subst, ◌∙◌, arith, zero-add}
+-- Single tokens are read by the next token alone.
+use Rattle.std.proofs.Common.{◌≡◌, ℕ, zero, suc, ◌+◌, List, [], ◌∷◌, None, Result, Ok, Err, refl, sym, ap, ap₂, subst, ◌∙◌, arith, zero-add}
 use Rattle.qml_ast.specs.declared.fault.DocFault.{DocFault}
-use Rattle.qml_ast.specs.declared.fault.DocFault.TheVariants.{Syntax, TooDeep, Unsupported}
+use Rattle.qml_ast.specs.declared.fault.DocFault.TheVariants.{TooDeep}
 use Rattle.qml_ast.specs.declared.span.Span.{Span}
-use Rattle.qml_grammar.specs.Inputs.{Input, Parser, ahead, after, place, refusal, operand_refusal, too_deep, take_token, take_node, expect, any_name}
-use Rattle.qml_grammar.specs.Lexemes.{Token, head, tail, name_of, is_mark, is_foreign, is_foreign_operand}
+use Rattle.qml_grammar.specs.Inputs.{Input, ahead, after, place, refusal, operand_refusal, too_deep, take_token, take_node, expect, any_name}
+use Rattle.qml_grammar.specs.Lexemes.{Token, head, tail, name_of, is_mark}
 use Rattle.qml_grammar.specs.declared.mark.Mark.{Mark}
-use Rattle.grammar_laws.specs.Faults.{IsFaultAt, syntax, unsupported, deep}
 use Rattle.grammar_laws.specs.Laws.{Way}
 use Rattle.grammar_laws.proofs.Behind.{behind, last_behind, same_input_by, node_last}
-use Rattle.grammar_laws.proofs.Local.{LocalOk, LocalErr, Local, local_branch, local_choose}
+use Rattle.grammar_laws.proofs.Local.{LocalOk, Local, local_branch, local_choose}
 use Rattle.grammar_laws.proofs.Tools.{way_none, way_token, way_node, same_value, same_input}
 
 -- Faults
 
--- the place of a token, or else the end
-abbrev place_of : Option Token → Span → Span
-place_of o s = elim o [ Some t ↦ t.span | None ↦ s ]
-
-abbrev failing : {A : Type 0} → (Option Token → Span → DocFault) → Parser A
-failing fault i = Err (fault (ahead i) i.end)
-
-same_fault : {A : Type 0} (e f : DocFault) → ◌≡◌ {A = Result (A × Input) DocFault} (Err e) (Err f) → e ≡ f
-same_fault {A = A} e f h = let g : ◌≡◌ {A = Result (A × Input) DocFault} (Err e) (Err f) = h in cc
-
-failing_err : {A : Type 0} (fault : Option Token → Span → DocFault) → ((o : Option Token) (s : Span) → IsFaultAt (fault o s) (place_of o s)) → (i : Input) (e : DocFault) → fault (ahead i) i.end ≡ e → LocalErr (failing {A = A} fault) i e
-failing_err fault stands i e h = record {
-  nodes = 0;
-  text = [];
-  at = i;
-  way = way_none i;
-  place = subst (λ f. IsFaultAt f (place i)) h (stands (ahead i) i.end);
-  again = λ l s. ap Err (ap₂ fault s.ahead s.end ∙ h);
-}
-
-pub local_failing : {A : Type 0} (fault : Option Token → Span → DocFault) → ((o : Option Token) (s : Span) → IsFaultAt (fault o s) (place_of o s)) → Local (failing {A = A} fault)
-local_failing {A = A} fault stands = record {
-  ok = λ i x j h. absurd cc;
-  err = λ i e h. failing_err fault stands i e (same_fault {A = A} (fault (ahead i) i.end) e h);
-}
-
-abbrev refusal_of : (Option Token → Bool) → Option Token → Span → DocFault
-refusal_of foreign o s = if foreign o then Unsupported (place_of o s) else Syntax (place_of o s)
-
-refusal_stands : (b : Bool) (s : Span) → IsFaultAt (if b then Unsupported s else Syntax s) s
-refusal_stands true s = unsupported refl
-refusal_stands false s = syntax refl
+local_failing : {A : Type 0} (fault : Input → DocFault) → Local {A = A} (λ i. Err (fault i))
+local_failing fault = record { ok = λ i x j h. absurd cc }
 
 pub local_refused : {A : Type 0} → Local {A = A} (λ i. Err (refusal i))
-local_refused = local_failing (refusal_of is_foreign) (λ o s. refusal_stands (is_foreign o) (place_of o s))
+local_refused = local_failing (λ i. refusal i)
 
 pub local_operand_refused : {A : Type 0} → Local {A = A} (λ i. Err (operand_refusal i))
-local_operand_refused = local_failing (refusal_of is_foreign_operand) (λ o s. refusal_stands (is_foreign_operand o) (place_of o s))
+local_operand_refused = local_failing (λ i. operand_refusal i)
 
 pub local_too_deep : {A : Type 0} → Local {A = A} too_deep
-local_too_deep = local_failing (λ o s. TooDeep (place_of o s)) (λ o s. deep refl)
+local_too_deep = local_failing (λ i. TooDeep (place i))
 
 -- Values
 
@@ -66,7 +35,6 @@ local_pure {A = A} x = record {
     way = subst (λ k. Way i k 0 []) (same_input x y i j h) (way_none i);
     again = λ l s. ap₂ {C = Result (A × Input) DocFault} (λ z k. Ok (z, k)) (same_value x y i j h) (last_behind l);
   };
-  err = λ i e h. absurd cc;
 }
 
 -- Tokens
@@ -93,7 +61,6 @@ after_ok {A = A} x y (t ∷ ts) s n j v e = record {
 pub local_after : {A : Type 0} (x : A) → Local (λ i. Ok (x, after i))
 local_after x = record {
   ok = λ i y j h. after_ok x y i.rest i.end i.nodes j (same_value x y (after i) j h) (same_input x y (after i) j h);
-  err = λ i e h. absurd cc;
 }
 
 pub local_token : Local take_token
@@ -113,9 +80,6 @@ node_none l h =
     let rest : tail l.rest ≡ l.rest = ap tail h ∙ sym h in
     rw e (ap (λ ts. Ok (tt, record { rest = ts; end = l.end; nodes = l.nodes })) rest)
 
-no_nodes : (l : Input) → l.nodes ≡ 0 → take_node (behind [] 0 l) ≡ Err (TooDeep (place l))
-no_nodes l h = let e : 0 + l.nodes ≡ 0 = omega arith in rw e
-
 node_ok : (ts : List Token) (s : Span) (n : ℕ) (u : Unit {0}) (j : Input) → take_node (record { rest = ts; end = s; nodes = n }) ≡ Ok (u, j) → LocalOk take_node (record { rest = ts; end = s; nodes = n }) j u
 node_ok ts s zero u j h = absurd cc
 node_ok [] s (suc n) u j h =
@@ -133,21 +97,7 @@ node_ok (t ∷ ts) s (suc n) u j h = record {
   again = λ l h2. node_last t l;
 }
 
-node_err : (i : Input) (n : ℕ) (e : DocFault) → i.nodes ≡ n → take_node (record { rest = i.rest; end = i.end; nodes = n }) ≡ Err e → LocalErr take_node i e
-node_err i zero e n_is h =
-    let f = same_fault {A = Unit {0}} (TooDeep (place i)) e h in
-    record {
-      nodes = 0;
-      text = [];
-      at = i;
-      way = way_none i;
-      place = subst (λ g. IsFaultAt g (place i)) f (deep refl);
-      again = λ l s. no_nodes l (s.nodes ∙ n_is) ∙ ap Err (ap₂ (λ o t. TooDeep (place_of o t)) s.ahead s.end ∙ f);
-    }
-node_err i (suc n) e n_is h = absurd cc
-
 pub local_node : Local take_node
 local_node = record {
   ok = λ i u j h. node_ok i.rest i.end i.nodes u j h;
-  err = λ i e h. node_err i i.nodes e refl h;
 }

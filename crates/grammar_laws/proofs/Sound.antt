@@ -37,16 +37,16 @@ below t n tells h most = let ne : strength t ≢ suc n = eqb-false (strength t) 
 loosened : {Spells : ℕ → List Token → Expr → Type 0} {test : Option Token → Bool} {i j : Input} {x : Expr} (level : ℕ) → Tells test (suc level) → Loops Spells (suc level) test i j x → Covers Spells level i j x
 loosened {j = j} level tells w = let c = w.covers in record { nodes = c.nodes; text = c.text; way = c.way; spelled = c.spelled; stops = below (ahead j) level tells w.ends c.stops }
 
-lifted : {Operand Spells : ℕ → List Token → Expr → Type 0} {bound : ℕ} {i j : Input} {x : Expr} → ((n : ℕ) (us : List Token) (z : Expr) → Operand n us z → Spells n us z) → Covers Operand bound i j x → Covers Spells bound i j x
+pub lifted : {Operand Spells : ℕ → List Token → Expr → Type 0} {bound : ℕ} {i j : Input} {x : Expr} → ((n : ℕ) (us : List Token) (z : Expr) → Operand n us z → Spells n us z) → Covers Operand bound i j x → Covers Spells bound i j x
 lifted {x = x} one c = record { nodes = c.nodes; text = c.text; way = c.way; spelled = one c.nodes c.text x c.spelled; stops = c.stops }
 
-or_else : {a b : Bool} → (a || b) ≡ true → a ≡ false → b ≡ true
+pub or_else : {a b : Bool} → (a || b) ≡ true → a ≡ false → b ≡ true
 or_else {a = true} h e = absurd cc
 or_else {a = false} h e = h
 
 -- Operators between operands
 
-joined_adds : {Spells Operand : ℕ → List Token → Expr → Type 0} {bound : ℕ} (make : Expr → Expr → Expr) (operand : Parser Expr) (x : Expr) (i : Input) (y : Expr) (j : Input) (o : Token) → i.rest ≡ o ∷ tail i.rest → ((k : Input) (z : Expr) (l : Input) → operand k ≡ Ok (z, l) → Covers Operand bound k l z) → ((m k n : ℕ) (us vs : List Token) (z : Expr) → m ≡ k + 1 + n → Spells k us x → Operand n vs z → Spells m (us ++ o ∷ vs) (make x z)) → joined make operand x i ≡ Ok (y, j) → Adds Spells bound x i j y
+pub joined_adds : {Spells Operand : ℕ → List Token → Expr → Type 0} {bound : ℕ} (make : Expr → Expr → Expr) (operand : Parser Expr) (x : Expr) (i : Input) (y : Expr) (j : Input) (o : Token) → i.rest ≡ o ∷ tail i.rest → ((k : Input) (z : Expr) (l : Input) → operand k ≡ Ok (z, l) → Covers Operand bound k l z) → ((m k n : ℕ) (us vs : List Token) (z : Expr) → m ≡ k + 1 + n → Spells k us x → Operand n vs z → Spells m (us ++ o ∷ vs) (make x z)) → joined make operand x i ≡ Ok (y, j) → Adds Spells bound x i j y
 unfolding joined
 joined_adds make operand x i y j o rest sound join h =
     let b = bind_ok (take_node i) _ _ h in
@@ -68,11 +68,11 @@ module _ (table : Mark → Option BinOp) (operand : Parser Expr) (level : ℕ) (
       let t = ahead_gives (looked_up table) refl i op e in
       joined_adds (Binary op) operand x i y j t.token t.rest sound (more t.token op x t.is) h
 
-  operator_adds : (x : Expr) (i : Input) (y : Expr) (j : Input) → begins_operator table (ahead i) ≡ true → operator table operand x i ≡ Ok (y, j) → Adds Spells (suc level) x i j y
+  pub operator_adds : (x : Expr) (i : Input) (y : Expr) (j : Input) → begins_operator table (ahead i) ≡ true → operator table operand x i ≡ Ok (y, j) → Adds Spells (suc level) x i j y
   unfolding operator
   operator_adds x i y j t h = operator_from x i y j (looked_up table (ahead i)) refl h
 
-  chain_covers : (i : Input) (x : Expr) (j : Input) → chain table operand i ≡ Ok (x, j) → Covers Spells level i j x
+  pub chain_covers : (i : Input) (x : Expr) (j : Input) → chain table operand i ≡ Ok (x, j) → Covers Spells level i j x
   unfolding chain
   chain_covers i x j h =
       let b = bind_ok (operand i) _ _ h in
@@ -81,21 +81,21 @@ module _ (table : Mark → Option BinOp) (operand : Parser Expr) (level : ℕ) (
 
 -- likewise for one mark between operands
 module _ (m : Mark) (make : Expr → Expr → Expr) (operand : Parser Expr) (level : ℕ) (tells : Tells (is_mark m) (suc level)) (Operand Spells : ℕ → List Token → Expr → Type 0) (sound : (k : Input) (z : Expr) (l : Input) → operand k ≡ Ok (z, l) → Covers Operand (suc level) k l z) (one : (n : ℕ) (us : List Token) (x : Expr) → Operand n us x → Spells n us x) (more : (o : Token) (x : Expr) → IsMark o m → (m k n : ℕ) (us vs : List Token) (z : Expr) → m ≡ k + 1 + n → Spells k us x → Operand n vs z → Spells m (us ++ o ∷ vs) (make x z)) where
-  mark_adds : (x : Expr) (i : Input) (y : Expr) (j : Input) → is_mark m (ahead i) ≡ true → joined make operand x i ≡ Ok (y, j) → Adds Spells (suc level) x i j y
+  pub mark_adds : (x : Expr) (i : Input) (y : Expr) (j : Input) → is_mark m (ahead i) ≡ true → joined make operand x i ≡ Ok (y, j) → Adds Spells (suc level) x i j y
   mark_adds x i y j t h = let a = ahead_some (is_mark m) refl i t in joined_adds make operand x i y j a.token a.rest sound (more a.token x a.is) h
 
-  marks_cover : (i : Input) (x : Expr) (j k : Input) (y : Expr) → operand i ≡ Ok (y, k) → while_next (is_mark m) (joined make operand) y k ≡ Ok (x, j) → Covers Spells level i j x
+  pub marks_cover : (i : Input) (x : Expr) (j k : Input) (y : Expr) → operand i ≡ Ok (y, k) → while_next (is_mark m) (joined make operand) y k ≡ Ok (x, j) → Covers Spells level i j x
   marks_cover i x j k y h g = loosened level tells (while_covers Spells (suc level) (is_mark m) (joined make operand) refl mark_adds i k y x j (lifted one (sound i y k h)) g)
 
 -- Operands
 
 -- what may stand behind "(" in a call, with its ")"
-data InCall (c : ℕ) (n : ℕ) (ts : List Token) (xs : List Expr) : Type 0 where
+pub data InCall (c : ℕ) (n : ℕ) (ts : List Token) (xs : List Expr) : Type 0 where
   none_given : (z : Token) → n ≡ 0 → ts ≡ z ∷ [] → xs ≡ [] → IsMark z CloseParen → InCall c n ts xs
   given : (vs : List Token) (z : Token) → ts ≡ vs ++ z ∷ [] → AreArguments c n vs xs → IsMark z CloseParen → InCall c n ts xs
 
 module _ (d : ℕ) (v : Inner) (inside : SoundInside d v) where
-  parens_cover : (i : Input) (x : Expr) (j : Input) → is_mark OpenParen (ahead i) ≡ true → parens v i ≡ Ok (x, j) → Covers (IsPrimary d) 8 i j x
+  pub parens_cover : (i : Input) (x : Expr) (j : Input) → is_mark OpenParen (ahead i) ≡ true → parens v i ≡ Ok (x, j) → Covers (IsPrimary d) 8 i j x
   unfolding parens
   parens_cover i x j t h =
       let o = ahead_some (is_mark OpenParen) refl i t in
@@ -135,15 +135,15 @@ module _ (d : ℕ) (v : Inner) (inside : SoundInside d v) where
         stops = strength_most (ahead b.at);
       }) b.onward
 
-  atom_covers : (i : Input) (x : Expr) (j : Input) → atom i ≡ Ok (x, j) → Covers (IsPrimary d) 8 i j x
+  pub atom_covers : (i : Input) (x : Expr) (j : Input) → atom i ≡ Ok (x, j) → Covers (IsPrimary d) 8 i j x
   unfolding atom
   atom_covers i x j h = atom_from i x j (atom_of (ahead i)) refl h
 
-  primary_covers : (i : Input) (x : Expr) (j : Input) → primary v i ≡ Ok (x, j) → Covers (IsPrimary d) 8 i j x
+  pub primary_covers : (i : Input) (x : Expr) (j : Input) → primary v i ≡ Ok (x, j) → Covers (IsPrimary d) 8 i j x
   unfolding primary
   primary_covers i x j h = elim (if_ok (is_mark OpenParen (ahead i)) _ _ _ h) [ inl a ↦ parens_cover i x j a.0 a.1 | inr a ↦ atom_covers i x j a.1 ]
 
-  member_adds : (x : Expr) (i : Input) (y : Expr) (j : Input) → is_mark Dot (ahead i) ≡ true → member x i ≡ Ok (y, j) → Adds (IsPostfix d) 8 x i j y
+  pub member_adds : (x : Expr) (i : Input) (y : Expr) (j : Input) → is_mark Dot (ahead i) ≡ true → member x i ≡ Ok (y, j) → Adds (IsPostfix d) 8 x i j y
   unfolding member
   member_adds x i y j t h =
       let o = ahead_some (is_mark Dot) refl i t in
@@ -159,7 +159,7 @@ module _ (d : ℕ) (v : Inner) (inside : SoundInside d v) where
         stops = strength_most (ahead b.at);
       }) b.onward
 
-  argument_adds : (c : ℕ) → d ≡ suc c → (xs : List Expr) (i : Input) (ys : List Expr) (j : Input) → is_mark Comma (ahead i) ≡ true → argument v xs i ≡ Ok (ys, j) → Adds (AreArguments c) 0 xs i j ys
+  pub argument_adds : (c : ℕ) → d ≡ suc c → (xs : List Expr) (i : Input) (ys : List Expr) (j : Input) → is_mark Comma (ahead i) ≡ true → argument v xs i ≡ Ok (ys, j) → Adds (AreArguments c) 0 xs i j ys
   unfolding argument
   argument_adds c e xs i ys j t h =
       let o = ahead_some (is_mark Comma) refl i t in
@@ -174,7 +174,7 @@ module _ (d : ℕ) (v : Inner) (inside : SoundInside d v) where
         stops = y.stops;
       }) b.onward
 
-  some_arguments_cover : (c : ℕ) → d ≡ suc c → (i : Input) (xs : List Expr) (j : Input) → some_arguments v i ≡ Ok (xs, j) → Covers (InCall c) 8 i j xs
+  pub some_arguments_cover : (c : ℕ) → d ≡ suc c → (i : Input) (xs : List Expr) (j : Input) → some_arguments v i ≡ Ok (xs, j) → Covers (InCall c) 8 i j xs
   unfolding some_arguments
   some_arguments_cover c e i xs j h =
       let a = bind_ok (v.expr i) _ _ h in
@@ -192,7 +192,7 @@ module _ (d : ℕ) (v : Inner) (inside : SoundInside d v) where
         stops = strength_most (ahead g.at);
       }) g.onward
 
-  arguments_cover : (c : ℕ) → d ≡ suc c → (i : Input) (xs : List Expr) (j : Input) → arguments v i ≡ Ok (xs, j) → Covers (InCall c) 8 i j xs
+  pub arguments_cover : (c : ℕ) → d ≡ suc c → (i : Input) (xs : List Expr) (j : Input) → arguments v i ≡ Ok (xs, j) → Covers (InCall c) 8 i j xs
   unfolding arguments
   arguments_cover c e i xs j h = elim (if_ok (is_mark CloseParen (ahead i)) _ _ _ h) [
     | inl a ↦ (let z = ahead_some (is_mark CloseParen) refl i a.0 in covers_to (record {
@@ -205,11 +205,11 @@ module _ (d : ℕ) (v : Inner) (inside : SoundInside d v) where
     | inr a ↦ some_arguments_cover c e i xs j a.1
   ]
 
-  called : (c : ℕ) → d ≡ suc c → (k : ℕ) (us : List Token) (o : Token) (x : Expr) → IsMark o OpenParen → IsPostfix d k us x → (n : ℕ) (ts : List Token) (xs : List Expr) → InCall c n ts xs → IsPostfix d (k + (1 + n)) (us ++ o ∷ ts) (Call x xs)
+  pub called : (c : ℕ) → d ≡ suc c → (k : ℕ) (us : List Token) (o : Token) (x : Expr) → IsMark o OpenParen → IsPostfix d k us x → (n : ℕ) (ts : List Token) (xs : List Expr) → InCall c n ts xs → IsPostfix d (k + (1 + n)) (us ++ o ∷ ts) (Call x xs)
   called c e k us o x m p n ts xs (none_given z n_is ts_is xs_is close) = call_none c k us o z x e (omega arith) (ap (λ ws. us ++ o ∷ ws) ts_is) (ap (λ ys. Call x ys) xs_is) p m close
   called c e k us o x m p n ts xs (given vs z ts_is are close) = a_call c k n us o vs z x xs e (omega arith) (rw (ts_is, append_assoc)) refl p m are close
 
-  call_adds : (x : Expr) (i : Input) (y : Expr) (j : Input) → is_mark OpenParen (ahead i) ≡ true → call v x i ≡ Ok (y, j) → Adds (IsPostfix d) 8 x i j y
+  pub call_adds : (x : Expr) (i : Input) (y : Expr) (j : Input) → is_mark OpenParen (ahead i) ≡ true → call v x i ≡ Ok (y, j) → Adds (IsPostfix d) 8 x i j y
   unfolding call
   call_adds x i y j t h =
       let o = ahead_some (is_mark OpenParen) refl i t in
@@ -228,21 +228,21 @@ module _ (d : ℕ) (v : Inner) (inside : SoundInside d v) where
         stops = strength_most (ahead c.at);
       }) c.onward
 
-  postfix_adds : (x : Expr) (i : Input) (y : Expr) (j : Input) → begins_postfix (ahead i) ≡ true → postfix v x i ≡ Ok (y, j) → Adds (IsPostfix d) 8 x i j y
+  pub postfix_adds : (x : Expr) (i : Input) (y : Expr) (j : Input) → begins_postfix (ahead i) ≡ true → postfix v x i ≡ Ok (y, j) → Adds (IsPostfix d) 8 x i j y
   unfolding postfix
   postfix_adds x i y j t h = elim (if_ok (is_mark Dot (ahead i)) _ _ _ h) [
     | inl a ↦ member_adds x i y j a.0 a.1
     | inr a ↦ call_adds x i y j (or_else t a.0) a.1
   ]
 
-  postfixes_cover : (i : Input) (x : Expr) (j : Input) → postfixes v i ≡ Ok (x, j) → Covers (IsPostfix d) 7 i j x
+  pub postfixes_cover : (i : Input) (x : Expr) (j : Input) → postfixes v i ≡ Ok (x, j) → Covers (IsPostfix d) 7 i j x
   unfolding postfixes
   postfixes_cover i x j h =
       let b = bind_ok (primary v i) _ _ h in
       let c = primary_covers i b.value b.at b.first in
       loosened 7 tells_postfix (while_covers (IsPostfix d) 8 begins_postfix (postfix v) refl postfix_adds i b.at b.value x j (lifted (λ n us z p. a_primary p) c) b.onward)
 
-  operated_covers : (op : UnOp) (i : Input) (x : Expr) (j : Input) → looked_up unary_operator (ahead i) ≡ Some op → operated v op i ≡ Ok (x, j) → Covers (IsUnary d) 7 i j x
+  pub operated_covers : (op : UnOp) (i : Input) (x : Expr) (j : Input) → looked_up unary_operator (ahead i) ≡ Some op → operated v op i ≡ Ok (x, j) → Covers (IsUnary d) 7 i j x
   unfolding operated
   operated_covers op i x j t h =
       let o = ahead_gives (looked_up unary_operator) refl i op t in
@@ -264,39 +264,39 @@ module _ (d : ℕ) (v : Inner) (inside : SoundInside d v) where
   unary_from i x j None e h = lifted (λ n us z p. a_postfix p) (postfixes_cover i x j h)
   unary_from i x j (Some op) e h = operated_covers op i x j e h
 
-  unary_covers : (i : Input) (x : Expr) (j : Input) → unary_in v i ≡ Ok (x, j) → Covers (IsUnary d) 7 i j x
+  pub unary_covers : (i : Input) (x : Expr) (j : Input) → unary_in v i ≡ Ok (x, j) → Covers (IsUnary d) 7 i j x
   unfolding unary_in
   unary_covers i x j h = unary_from i x j (looked_up unary_operator (ahead i)) refl h
 
-  products_cover : (i : Input) (x : Expr) (j : Input) → products v i ≡ Ok (x, j) → Covers (IsProduct d) 6 i j x
+  pub products_cover : (i : Input) (x : Expr) (j : Input) → products v i ≡ Ok (x, j) → Covers (IsProduct d) 6 i j x
   unfolding products
   products_cover = chain_covers product_operator (unary_in v) 6 tells_product (IsUnary d) (IsProduct d) unary_covers (λ n us x p. a_unary p) (λ o op x t m k n us vs z e p q. times k n us o vs op x z e refl refl p t q)
 
-  sums_cover : (i : Input) (x : Expr) (j : Input) → sums v i ≡ Ok (x, j) → Covers (IsSum d) 5 i j x
+  pub sums_cover : (i : Input) (x : Expr) (j : Input) → sums v i ≡ Ok (x, j) → Covers (IsSum d) 5 i j x
   unfolding sums
   sums_cover = chain_covers sum_operator (products v) 5 tells_sum (IsProduct d) (IsSum d) products_cover (λ n us x p. product p) (λ o op x t m k n us vs z e p q. plus k n us o vs op x z e refl refl p t q)
 
-  orders_cover : (i : Input) (x : Expr) (j : Input) → orders v i ≡ Ok (x, j) → Covers (IsOrder d) 4 i j x
+  pub orders_cover : (i : Input) (x : Expr) (j : Input) → orders v i ≡ Ok (x, j) → Covers (IsOrder d) 4 i j x
   unfolding orders
   orders_cover = chain_covers order_operator (sums v) 4 tells_order (IsSum d) (IsOrder d) sums_cover (λ n us x p. sum p) (λ o op x t m k n us vs z e p q. compare k n us o vs op x z e refl refl p t q)
 
-  equalities_cover : (i : Input) (x : Expr) (j : Input) → equalities v i ≡ Ok (x, j) → Covers (IsEquality d) 3 i j x
+  pub equalities_cover : (i : Input) (x : Expr) (j : Input) → equalities v i ≡ Ok (x, j) → Covers (IsEquality d) 3 i j x
   unfolding equalities
   equalities_cover = chain_covers equality_operator (orders v) 3 tells_equality (IsOrder d) (IsEquality d) orders_cover (λ n us x p. order p) (λ o op x t m k n us vs z e p q. equal k n us o vs op x z e refl refl p t q)
 
-  conjunctions_cover : (i : Input) (x : Expr) (j : Input) → conjunctions v i ≡ Ok (x, j) → Covers (IsConjunction d) 2 i j x
+  pub conjunctions_cover : (i : Input) (x : Expr) (j : Input) → conjunctions v i ≡ Ok (x, j) → Covers (IsConjunction d) 2 i j x
   unfolding conjunctions
   conjunctions_cover i x j h =
       let b = bind_ok (equalities v i) _ _ h in
       marks_cover DoubleAmpersand (λ y z. And y z) (equalities v) 2 tells_conjunction (IsEquality d) (IsConjunction d) equalities_cover (λ n us y p. equality p) (λ o y t m k n us vs z e p q. both k n us o vs y z e refl refl p t q) i x j b.at b.value b.first b.onward
 
-  disjunctions_cover : (i : Input) (x : Expr) (j : Input) → disjunctions v i ≡ Ok (x, j) → Covers (IsDisjunction d) 1 i j x
+  pub disjunctions_cover : (i : Input) (x : Expr) (j : Input) → disjunctions v i ≡ Ok (x, j) → Covers (IsDisjunction d) 1 i j x
   unfolding disjunctions
   disjunctions_cover i x j h =
       let b = bind_ok (conjunctions v i) _ _ h in
       marks_cover DoubleBar (λ y z. Or y z) (conjunctions v) 1 tells_disjunction (IsConjunction d) (IsDisjunction d) conjunctions_cover (λ n us y p. conjunction p) (λ o y t m k n us vs z e p q. either k n us o vs y z e refl refl p t q) i x j b.at b.value b.first b.onward
 
-  branches_cover : (o i : Input) (x : Expr) (y : Expr) (j : Input) → is_mark Question (ahead i) ≡ true → Covers (IsDisjunction d) 1 o i x → branches v x i ≡ Ok (y, j) → Covers (IsExpr d) 0 o j y
+  pub branches_cover : (o i : Input) (x : Expr) (y : Expr) (j : Input) → is_mark Question (ahead i) ≡ true → Covers (IsDisjunction d) 1 o i x → branches v x i ≡ Ok (y, j) → Covers (IsExpr d) 0 o j y
   unfolding branches
   branches_cover o i x y j t w h =
       let q = ahead_some (is_mark Question) refl i t in
@@ -318,7 +318,7 @@ module _ (d : ℕ) (v : Inner) (inside : SoundInside d v) where
         stops = z.stops;
       }) g.onward
 
-  conditional_covers : (o i : Input) (x : Expr) (y : Expr) (j : Input) → Covers (IsDisjunction d) 1 o i x → conditional v x i ≡ Ok (y, j) → Covers (IsExpr d) 0 o j y
+  pub conditional_covers : (o i : Input) (x : Expr) (y : Expr) (j : Input) → Covers (IsDisjunction d) 1 o i x → conditional v x i ≡ Ok (y, j) → Covers (IsExpr d) 0 o j y
   unfolding conditional
   conditional_covers o i x y j w h = elim (if_ok (is_mark Question (ahead i)) _ _ _ h) [
     | inl a ↦ branches_cover o i x y j a.0 w a.1
@@ -331,7 +331,7 @@ module _ (d : ℕ) (v : Inner) (inside : SoundInside d v) where
     }) a.1
   ]
 
-  expr_covers : (i : Input) (x : Expr) (j : Input) → expr_in v i ≡ Ok (x, j) → Covers (IsExpr d) 0 i j x
+  pub expr_covers : (i : Input) (x : Expr) (j : Input) → expr_in v i ≡ Ok (x, j) → Covers (IsExpr d) 0 i j x
   unfolding expr_in
   expr_covers i x j h =
       let b = bind_ok (disjunctions v i) _ _ h in

@@ -1,5 +1,5 @@
 use Rattle.grammar_laws.proofs.Failing.{expr_faults, whole_faults, none_begins, none_begins_outermost}
-use Rattle.grammar_laws.proofs.fault_is_local.Goals as goal
+use Rattle.grammar_laws.proofs.fault_is_first.Goals as goal
 
 pub returns-clause-inside : goal.returns-clause-inside
 returns-clause-inside c = expr_faults
