@@ -1,4 +1,4 @@
-use crate::{Outcome, Words, exit_of, run, status_line};
+use crate::{Outcome, Status, Words, exit_of, run, status_line};
 use outside::{MemFiles, MemSink};
 use std::alloc::{AllocError, Global};
 use std::process::Abort;
@@ -353,5 +353,13 @@ fn children_move_with_their_parents(rt: HostRuntime) -> Result<(), Fail> {
         &image[1935..1950],
         b"\x00\x00\xff\x00\xff\x00\x00\x00\x00\x00\xff\x00\x00\xff\x00".as_slice()
     );
+    Ok(())
+}
+
+#[test]
+fn want_of_memory_has_its_line_and_exit(rt: HostRuntime) -> Result<(), Fail> {
+    let line = status_line(rt.alloc(), &Status::NoMemory)?;
+    assert_eq!(rt; line.as_slice(), b"qmlstage: no memory\n".as_slice());
+    assert_eq!(rt; exit_of(&Status::NoMemory), 7);
     Ok(())
 }
