@@ -38,7 +38,7 @@ missing f z e h = rw e h
 pub passed : {A : Type 0} {b : Bool} (p q : A) {y : A} → b ≡ true → p ≡ y → ◌≡◌ {A = A} (elim b [ true ↦ p | false ↦ q ]) y
 passed p q e h = rw e h
 
-failed : {A : Type 0} {b : Bool} (p q : A) {y : A} → b ≡ false → q ≡ y → ◌≡◌ {A = A} (elim b [ true ↦ p | false ↦ q ]) y
+pub failed : {A : Type 0} {b : Bool} (p q : A) {y : A} → b ≡ false → q ≡ y → ◌≡◌ {A = A} (elim b [ true ↦ p | false ↦ q ]) y
 failed p q e h = rw e h
 
 pub node_behind : (t : Token) (ts : List Token) (n : ℕ) (j : Input) → take_node (behind (t ∷ ts) (1 + n) j) ≡ Ok (tt, behind ts n j)

@@ -31,7 +31,7 @@ unfolding whole
 whole_alike d i e c k l w s =
     let left : Input = record { rest = l.rest; end = l.end; nodes = c.at.nodes } in
     let same : full k ≡ behind c.text c.nodes left = same_input_by w.rest w.end (omega (arith, (c.way).used)) in
-    err_then _ (ap (expr d) same ∙ c.again left (record { ahead = s.ahead; end = s.end; nodes = refl }))
+    err_then _ (ap (expr d) same ∙ c.again left (record { ahead = s.ahead; place = s.place; nodes = refl }))
 
 whole_from : (d : ℕ) (i : Input) (e : DocFault) → FailsAt (expr d) (CanGoOn (IsExpr d)) (full i) e → FaultsAt (IsExpr d) (whole d) i e
 whole_from d i e c = record {

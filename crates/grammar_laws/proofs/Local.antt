@@ -1,7 +1,7 @@
 -- Readings that depend on the tokens that they take, and on the one behind them, alone.
 use Rattle.std.proofs.Common.{◌≡◌, ℕ, ◌+◌, Bool, if◌then◌else◌, List, [], ◌∷◌, ◌++◌, Option, Some, None, Result, Ok, Err, inl, inr, refl, sym, ap, ◌∙◌, arith}
 use Rattle.qml_ast.specs.declared.fault.DocFault.{DocFault}
-use Rattle.qml_grammar.specs.Inputs.{Input, Parser, ahead}
+use Rattle.qml_grammar.specs.Inputs.{Input, Parser, ahead, place}
 use Rattle.qml_grammar.specs.Lexemes.{Token}
 use Rattle.grammar_laws.specs.Faults.{IsLike}
 use Rattle.grammar_laws.specs.Laws.{Way}
@@ -27,8 +27,15 @@ ahead_kept (t ∷ ts) n l j h = refl
 pub ahead_again : {i j : Input} (l : Input) {n : ℕ} {ts : List Token} → Way i j n ts → ahead l ≡ ahead j → ahead (behind ts n l) ≡ ahead i
 ahead_again {j = j} l {n = n} {ts = ts} w h = ahead_kept ts n l j h ∙ sym (ap ahead (way_behind w))
 
+place_kept : (ts : List Token) (n : ℕ) (l j : Input) → place l ≡ place j → place (behind ts n l) ≡ place (behind ts n j)
+place_kept [] n l j h = h
+place_kept (t ∷ ts) n l j h = refl
+
+pub place_again : {i j : Input} (l : Input) {n : ℕ} {ts : List Token} → Way i j n ts → place l ≡ place j → place (behind ts n l) ≡ place i
+place_again {j = j} l {n = n} {ts = ts} w h = place_kept ts n l j h ∙ sym (ap place (way_behind w))
+
 pub like_again : {i j : Input} (l : Input) {n : ℕ} {ts : List Token} → Way i j n ts → IsLike l j → IsLike (behind ts n l) i
-like_again l w h = record { ahead = ahead_again l w h.ahead; end = h.end ∙ sym w.end; nodes = omega (arith, h.nodes, w.used) }
+like_again l w h = record { ahead = ahead_again l w h.ahead; place = place_again l w h.place; nodes = omega (arith, h.nodes, w.used) }
 
 -- One reading after another one
 

@@ -13,7 +13,7 @@ use Rattle.grammar_laws.proofs.Tools.{way_none, way_token, way_node, same_value,
 
 -- Faults
 
-local_failing : {A : Type 0} (fault : Input → DocFault) → Local {A = A} (λ i. Err (fault i))
+pub local_failing : {A : Type 0} (fault : Input → DocFault) → Local {A = A} (λ i. Err (fault i))
 local_failing fault = record { ok = λ i x j h. absurd cc }
 
 pub local_refused : {A : Type 0} → Local {A = A} (λ i. Err (refusal i))

@@ -44,37 +44,34 @@ fails_once {p = p} {i = i} a v = record {
 
 -- Faults
 
--- the place of a token, or else the end
-abbrev place_of : Option Token → Span → Span
-place_of o s = elim o [ Some t ↦ t.span | None ↦ s ]
-
+-- a fault by the next token and its place
 abbrev failing : {A : Type 0} → (Option Token → Span → DocFault) → Parser A
-failing fault i = Err (fault (ahead i) i.end)
+failing fault i = Err (fault (ahead i) (place i))
 
 abbrev refusal_of : (Option Token → Bool) → Option Token → Span → DocFault
-refusal_of foreign o s = if foreign o then Unsupported (place_of o s) else Syntax (place_of o s)
+refusal_of foreign o s = if foreign o then Unsupported s else Syntax s
 
 refusal_stands : (b : Bool) (s : Span) → IsFaultAt (if b then Unsupported s else Syntax s) s
 refusal_stands true s = unsupported refl
 refusal_stands false s = syntax refl
 
-failing_once : {A : Type 0} (fault : Option Token → Span → DocFault) → ((o : Option Token) (s : Span) → IsFaultAt (fault o s) (place_of o s)) → (i : Input) → AtOnce (failing {A = A} fault) i (fault (ahead i) i.end)
-failing_once fault stands i = record { place = stands (ahead i) i.end; alike = λ l s. ap Err (ap₂ fault s.ahead s.end) }
+pub failing_once : {A : Type 0} (fault : Option Token → Span → DocFault) → ((o : Option Token) (s : Span) → IsFaultAt (fault o s) s) → (i : Input) → AtOnce (failing {A = A} fault) i (fault (ahead i) (place i))
+failing_once fault stands i = record { place = stands (ahead i) (place i); alike = λ l s. ap Err (ap₂ fault s.ahead s.place) }
 
-same_fault : {A : Type 0} (e f : DocFault) → ◌≡◌ {A = Result (A × Input) DocFault} (Err e) (Err f) → e ≡ f
+pub same_fault : {A : Type 0} (e f : DocFault) → ◌≡◌ {A = Result (A × Input) DocFault} (Err e) (Err f) → e ≡ f
 same_fault {A = A} e f h = let g : ◌≡◌ {A = Result (A × Input) DocFault} (Err e) (Err f) = h in cc
 
-once_as : {A : Type 0} {p : Parser A} {i : Input} {e f : DocFault} → AtOnce p i e → e ≡ f → AtOnce p i f
+pub once_as : {A : Type 0} {p : Parser A} {i : Input} {e f : DocFault} → AtOnce p i e → e ≡ f → AtOnce p i f
 once_as {p = p} {i = i} a h = subst (λ g. AtOnce p i g) h a
 
-refused_once : {A : Type 0} (i : Input) (e : DocFault) → ◌≡◌ {A = Result (A × Input) DocFault} (Err (refusal i)) (Err e) → AtOnce {A = A} (λ k. Err (refusal k)) i e
-refused_once {A = A} i e h = once_as (failing_once (refusal_of is_foreign) (λ o s. refusal_stands (is_foreign o) (place_of o s)) i) (same_fault {A = A} (refusal i) e h)
+pub refused_once : {A : Type 0} (i : Input) (e : DocFault) → ◌≡◌ {A = Result (A × Input) DocFault} (Err (refusal i)) (Err e) → AtOnce {A = A} (λ k. Err (refusal k)) i e
+refused_once {A = A} i e h = once_as (failing_once (refusal_of is_foreign) (λ o s. refusal_stands (is_foreign o) s) i) (same_fault {A = A} (refusal i) e h)
 
 pub operand_refused_once : {A : Type 0} (i : Input) (e : DocFault) → ◌≡◌ {A = Result (A × Input) DocFault} (Err (operand_refusal i)) (Err e) → AtOnce {A = A} (λ k. Err (operand_refusal k)) i e
-operand_refused_once {A = A} i e h = once_as (failing_once (refusal_of is_foreign_operand) (λ o s. refusal_stands (is_foreign_operand o) (place_of o s)) i) (same_fault {A = A} (operand_refusal i) e h)
+operand_refused_once {A = A} i e h = once_as (failing_once (refusal_of is_foreign_operand) (λ o s. refusal_stands (is_foreign_operand o) s) i) (same_fault {A = A} (operand_refusal i) e h)
 
 pub too_deep_once : {A : Type 0} (i : Input) (e : DocFault) → ◌≡◌ {A = Result (A × Input) DocFault} (too_deep i) (Err e) → AtOnce {A = A} too_deep i e
-too_deep_once {A = A} i e h = once_as (failing_once (λ o s. TooDeep (place_of o s)) (λ o s. deep refl) i) (same_fault {A = A} (TooDeep (place i)) e h)
+too_deep_once {A = A} i e h = once_as (failing_once (λ o s. TooDeep s) (λ o s. deep refl) i) (same_fault {A = A} (TooDeep (place i)) e h)
 
 expect_once : (m : Mark) (i : Input) (e : DocFault) → expect m i ≡ Err e → AtOnce (expect m) i e
 expect_once m i e h = elim (if_ok (is_mark m (ahead i)) _ _ _ h) [
@@ -96,11 +93,11 @@ node_from i zero e n_is h =
     let f = same_fault {A = Unit {0}} (TooDeep (place i)) e h in
     record {
       place = subst (λ g. IsFaultAt g (place i)) f (deep refl);
-      alike = λ l s. no_node l (s.nodes ∙ n_is) ∙ ap Err (ap₂ (λ o t. TooDeep (place_of o t)) s.ahead s.end ∙ f);
+      alike = λ l s. no_node l (s.nodes ∙ n_is) ∙ ap Err (ap TooDeep s.place ∙ f);
     }
 node_from i (suc n) e n_is h = absurd cc
 
-node_once : (i : Input) (e : DocFault) → take_node i ≡ Err e → AtOnce take_node i e
+pub node_once : (i : Input) (e : DocFault) → take_node i ≡ Err e → AtOnce take_node i e
 node_once i e h = node_from i i.nodes e refl h
 
 pub followed_once : {A B : Type 0} {p : Parser A} (f : A → Parser B) {i : Input} {e : DocFault} → AtOnce p i e → AtOnce (followed p f) i e
@@ -174,7 +171,7 @@ fails_last p f V i first v never e h = elim (bind_err (p i) _ _ h) [
   | onward x k g g2 ↦ absurd (never x k e g2)
 ]
 
-pure_reads : {A : Type 0} (x : A) (i : Input) (e : DocFault) → ◌≡◌ {A = Result (A × Input) DocFault} (Ok (x, i)) (Err e) → ⊥
+pub pure_reads : {A : Type 0} (x : A) (i : Input) (e : DocFault) → ◌≡◌ {A = Result (A × Input) DocFault} (Ok (x, i)) (Err e) → ⊥
 pure_reads {A = A} x i e h = let g : ◌≡◌ {A = Result (A × Input) DocFault} (Ok (x, i)) (Err e) = h in cc
 
 pub pure_fails : {A : Type 0} (x : A) (V : List Token → Type 0) (i : Input) (e : DocFault) → ◌≡◌ {A = Result (A × Input) DocFault} (Ok (x, i)) (Err e) → FailsAt (λ l. Ok (x, l)) V i e
@@ -229,7 +226,7 @@ pub on_behind : {A : Type 0} {Spells : ℕ → List Token → A → Type 0} {x :
 on_behind (behind_any f) = f
 
 -- how a loop failed
-data Stuck {A : Type 0} (test : Option Token → Bool) (step : A → Parser A) (n : ℕ) (x : A) (i : Input) (e : DocFault) : Type 0 where
+pub data Stuck {A : Type 0} (test : Option Token → Bool) (step : A → Parser A) (n : ℕ) (x : A) (i : Input) (e : DocFault) : Type 0 where
   now : test (ahead i) ≡ true → step x i ≡ Err e → Stuck test step n x i e
   later : (z : A) (k : Input) → test (ahead i) ≡ true → step x i ≡ Ok (z, k) → repeated test step n z k ≡ Err e → Stuck test step n x i e
 
@@ -241,11 +238,11 @@ stuck_from : {A : Type 0} (test : Option Token → Bool) (step : A → Parser A)
 stuck_from test step n x i e true t h = stuck_by test step n x i e t (step x i) refl h
 stuck_from test step n x i e false t h = absurd cc
 
-stuck_on : {A : Type 0} (test : Option Token → Bool) (step : A → Parser A) (n : ℕ) (x : A) (i : Input) (e : DocFault) → repeated test step (suc n) x i ≡ Err e → Stuck test step n x i e
+pub stuck_on : {A : Type 0} (test : Option Token → Bool) (step : A → Parser A) (n : ℕ) (x : A) (i : Input) (e : DocFault) → repeated test step (suc n) x i ≡ Err e → Stuck test step n x i e
 unfolding repeated
 stuck_on test step n x i e h = stuck_from test step n x i e (test (ahead i)) refl h
 
-fail_anew : {A : Type 0} (test : Option Token → Bool) (step : A → Parser A) → test None ≡ false → (x : A) (n : ℕ) (us : List Token) (k : ℕ) (l : Input) (e : DocFault) → test (ahead (behind us k l)) ≡ true → step x (behind us k l) ≡ Err e → length (us ++ l.rest) ≤ n → repeated test step n x (behind us k l) ≡ Err e
+pub fail_anew : {A : Type 0} (test : Option Token → Bool) (step : A → Parser A) → test None ≡ false → (x : A) (n : ℕ) (us : List Token) (k : ℕ) (l : Input) (e : DocFault) → test (ahead (behind us k l)) ≡ true → step x (behind us k l) ≡ Err e → length (us ++ l.rest) ≤ n → repeated test step n x (behind us k l) ≡ Err e
 unfolding repeated
 fail_anew test step none x zero us k l e t h few = absurd (let f : test None ≡ true = sym (ap test (no_token (us ++ l.rest) few)) ∙ t in let g : false ≡ true = sym none ∙ f in cc)
 fail_anew test step none x (suc n) us k l e t h few = passed _ _ t (err_then _ h)

@@ -14,10 +14,10 @@ pub data IsFaultAt (fault : DocFault) (at : Span) : Type 0 where
   unsupported : fault ≡ Unsupported at → IsFaultAt fault at
   deep : fault ≡ TooDeep at → IsFaultAt fault at
 
--- both have the same token next, the same end and the same number of nodes
+-- both have the same token next, or the end, at the same place, and the same number of nodes
 pub record IsLike (l at : Input) : Type 0 where
   pub ahead : ahead l ≡ ahead at
-  pub end : l.end ≡ at.end
+  pub place : place l ≡ place at
   pub nodes : l.nodes ≡ at.nodes
 
 -- with others behind them the tokens spell something

@@ -14,8 +14,8 @@ use Rattle.qml_expr.specs.Precedences.{operand_at, operands_at, begins_at, opera
 use Rattle.qml_expr.specs.declared.precedence.Precedence.{Precedence}
 use Rattle.qml_expr.specs.declared.precedence.Precedence.TheVariants.{Product, Sum, Order, Equality, And, Or}
 
-pub retold : (a b : Result (Expr × Input) DocFault) (r : Result Expr DocFault) (j : Input) → a ≡ b → IsReading b r j → IsReading a r j
-retold a b r j e h = subst (λ (q : Result (Expr × Input) DocFault). IsReading q r j) (sym e) h
+pub retold : {A : Type 0} (a b : Result (A × Input) DocFault) (r : Result A DocFault) (j : Input) → a ≡ b → IsReading b r j → IsReading a r j
+retold {A = A} a b r j e h = subst (λ (q : Result (A × Input) DocFault). IsReading q r j) (sym e) h
 
 -- Levels
 
@@ -96,10 +96,10 @@ module _ {A : Type 0} (test : Option Token → Bool) (step : A → Parser A) whe
 
 -- Beginnings of loops
 
-bound : {A B : Type 0} (p : Parser A) (f : A → Parser B) (i j : Input) (x : A) → p i ≡ Ok (x, j) → ◌>>=◌ p f i ≡ f x j
+pub bound : {A B : Type 0} (p : Parser A) (f : A → Parser B) (i j : Input) (x : A) → p i ≡ Ok (x, j) → ◌>>=◌ p f i ≡ f x j
 bound {A = A} p f i j x e = ap (λ (q : Result (A × Input) DocFault). elim q [ Ok r ↦ f r.0 r.1 | Err g ↦ Err g ]) e
 
-failed : {A B : Type 0} (p : Parser A) (f : A → Parser B) (i : Input) (g : DocFault) → p i ≡ Err g → ◌>>=◌ p f i ≡ Err g
+pub failed : {A B : Type 0} (p : Parser A) (f : A → Parser B) (i : Input) (g : DocFault) → p i ≡ Err g → ◌>>=◌ p f i ≡ Err g
 failed {A = A} p f i g e = ap (λ (q : Result (A × Input) DocFault). elim q [ Ok r ↦ f r.0 r.1 | Err h ↦ Err h ]) e
 
 pub operands_begin : (p : Precedence) (v : Inner) (i j : Input) (x : Expr) → operand_at p v i ≡ Ok (x, j) → operands_at p v i ≡ while_next (begins_at p) (operation_at p v) x j

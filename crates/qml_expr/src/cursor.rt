@@ -1,8 +1,8 @@
-ghost use Rattle.std.specs.Prelude.{◌≡◌, IfOk, length};
+ghost use Rattle.std.specs.Prelude.{◌≡◌, is_some, IfOk, length};
 ghost use Rattle.qml_ast.specs.declared.fault.DocFault.TheVariants.{TooDeep};
 ghost use Rattle.qml_grammar.specs.Expressions.{begins_postfix};
 ghost use Rattle.qml_grammar.specs.Inputs as spec;
-ghost use Rattle.qml_grammar.specs.Lexemes.{is_mark, is_foreign, is_foreign_operand, atom_of, name_of, looked_up, unary_operator};
+ghost use Rattle.qml_grammar.specs.Lexemes.{is_mark, is_word, is_name, is_foreign, is_foreign_operand, atom_of, name_of, operand_name_of, looked_up, unary_operator};
 ghost use Rattle.qml_expr.specs.Precedences.{table_at, begins_at};
 ghost use Rattle.qml_expr.specs.Readings.{IsReading};
 ghost use Rattle.qml_expr.specs.Seen.{input_of, lexeme_of, atom_of_lexeme};
@@ -11,7 +11,7 @@ use crate::lexeme::Lexeme;
 use crate::precedence::Precedence;
 use crate::token::Token;
 use qml_ast::{BinOp, DocFault, Expr, Name, Span, UnOp};
-use qml_grammar::Mark;
+use qml_grammar::{Mark, Word};
 use sqlite_items::Boxed;
 use std::alloc::{AllocError, Global};
 
@@ -36,11 +36,42 @@ impl<'a> Cursor<'a> {
     }
 
     /// Whether the next token is the mark.
+    #[inline]
     pub fn sees(&self, mark: Mark) -> bool
         ensures { result ≡ is_mark mark (spec.ahead (input_of self.now)) }
     {
         match self.rest {
             [token, ..] => token.lexeme.is_mark(mark),
+            [] => false,
+        }
+    }
+
+    /// Whether the next token is the word.
+    pub fn sees_word(&self, word: Word) -> bool
+        ensures { result ≡ is_word word (spec.ahead (input_of self.now)) }
+    {
+        match self.rest {
+            [token, ..] => token.lexeme.is_word(word),
+            [] => false,
+        }
+    }
+
+    /// Whether the next token is a name, which a word is too.
+    pub fn sees_name(&self) -> bool
+        ensures { result ≡ is_name (spec.ahead (input_of self.now)) }
+    {
+        match self.rest {
+            [token, ..] => token.lexeme.is_name(),
+            [] => false,
+        }
+    }
+
+    /// Whether the next token alone is an expression: a literal, or a name that may begin one.
+    pub fn sees_atom(&self) -> bool
+        ensures { result ≡ is_some (atom_of (spec.ahead (input_of self.now))) }
+    {
+        match self.rest {
+            [token, ..] => token.lexeme.is_atom(),
             [] => false,
         }
     }
@@ -88,8 +119,8 @@ impl<'a> Cursor<'a> {
         }
     }
 
-    /// That no expression begins with the next token: `Unsupported` where one of QML's does, and else
-    /// `Syntax`.
+    /// That no expression or statement begins with the next token: `Unsupported` where one of QML's does,
+    /// and else `Syntax`.
     pub fn operand_refusal(&self) -> DocFault
         ensures { result ≡ spec.operand_refusal (input_of self.now) }
     {
@@ -119,7 +150,8 @@ impl<'a> Cursor<'a> {
     }
 
     /// The operator that the next token is before its operand, if it is one.
-    pub(crate) fn unary_operator(&self) -> Option<UnOp>
+    #[inline]
+    pub fn unary_operator(&self) -> Option<UnOp>
         ensures { result ≡ looked_up unary_operator (spec.ahead (input_of self.now)) }
     {
         match self.rest {
@@ -134,6 +166,7 @@ impl<'a> Cursor<'a> {
     }
 
     /// The operator of a level that the next token is between operands, if it is one but `&&` and `||`.
+    #[inline]
     pub(crate) fn operator(&self, precedence: Precedence) -> Option<BinOp>
         ensures { result ≡ looked_up (table_at precedence) (spec.ahead (input_of self.now)) }
     {
@@ -147,6 +180,7 @@ impl<'a> Cursor<'a> {
     }
 
     /// Whether the next token is an operator of the level.
+    #[inline]
     pub(crate) fn begins(&self, precedence: Precedence) -> bool
         ensures { result ≡ begins_at precedence (spec.ahead (input_of self.now)) }
     {
@@ -160,6 +194,7 @@ impl<'a> Cursor<'a> {
     }
 
     /// Whether a member or a call follows, behind what has it.
+    #[inline]
     pub(crate) fn begins_postfix(&self) -> bool
         ensures { result ≡ begins_postfix (spec.ahead (input_of self.now)) }
     {
@@ -177,7 +212,7 @@ impl<'a> Cursor<'a> {
 
     /// Goes behind the next token, which begins a node. The fault is `TooDeep` where the expression may
     /// have no more nodes.
-    pub(crate) fn take_node(&mut self) -> Result<(), DocFault>
+    pub fn take_node(&mut self) -> Result<(), DocFault>
         ensures { IsReading (spec.take_node (input_of self.old)) result (input_of self.new) }
     {
         if self.nodes == 0 {
@@ -214,8 +249,20 @@ impl<'a> Cursor<'a> {
         }
     }
 
-    // The name that the next token is, if it is one.
-    fn name(&self, alloc: Global) -> Result<Option<Name>, AllocError>
+    /// The name that the next token is where an expression or a statement begins, if it is one there. The
+    /// error is that memory ran out.
+    pub fn operand_name(&self, alloc: Global) -> Result<Option<Name>, AllocError>
+        ensures { IfOk result (λ name. name ≡ operand_name_of (spec.ahead (input_of self.now))) }
+    {
+        match self.rest {
+            [token, ..] => token.lexeme.operand_name(alloc),
+            [] => Ok(None),
+        }
+    }
+
+    /// The name that the next token is, if it is one, which a word is too. The error is that memory ran
+    /// out.
+    pub fn name(&self, alloc: Global) -> Result<Option<Name>, AllocError>
         ensures { IfOk result (λ name. name ≡ name_of (spec.ahead (input_of self.now))) }
     {
         match self.rest {

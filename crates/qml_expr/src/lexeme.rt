@@ -1,8 +1,8 @@
-ghost use Rattle.std.specs.Prelude.{◌≡◌, IfOk};
-ghost use Rattle.qml_grammar.specs.Lexemes.{is_mark_lexeme, value_of_lexeme, value_of_word, name_of_lexeme, operand_name_of_lexeme, is_foreign_lexeme, is_foreign_operand_lexeme};
+ghost use Rattle.std.specs.Prelude.{◌≡◌, is_some, IfOk};
+ghost use Rattle.qml_grammar.specs.Lexemes.{is_mark_lexeme, is_word_lexeme, value_of_lexeme, value_of_word, name_of_lexeme, operand_name_of_lexeme, is_foreign_lexeme, is_foreign_operand_lexeme};
 ghost use Rattle.qml_grammar.specs.Marks as marks;
 ghost use Rattle.qml_grammar.specs.Words as words;
-ghost use Rattle.qml_expr.specs.Seen.{lexeme_of, ordinary_name};
+ghost use Rattle.qml_expr.specs.Seen.{lexeme_of, atom_of_lexeme, ordinary_name};
 
 use crate::natural::Natural;
 use qml_ast::{Name, Text, Value};
@@ -29,6 +29,13 @@ fn is_same(mark: Mark, other: Mark) -> bool
     ensures { result ≡ marks.same_mark mark other }
 {
     mark == other
+}
+
+/// Whether both are the same word.
+fn is_same_word(word: Word, other: Word) -> bool
+    ensures { result ≡ words.same_word word other }
+{
+    word == other
 }
 
 /// The name that a word is.
@@ -87,14 +94,61 @@ fn is_keyword(word: Word) -> bool
     )
 }
 
+/// Whether the word is a name where an expression begins.
+fn is_ordinary(word: Word) -> bool
+    ensures { result ≡ words.is_ordinary word }
+{
+    !(is_keyword(word) || is_unsupported(word))
+}
+
 impl Lexeme {
     /// Whether it is the mark.
+    #[inline]
     pub fn is_mark(&self, mark: Mark) -> bool
         ensures { result ≡ is_mark_lexeme mark (lexeme_of self.now) }
     {
         match self {
             Lexeme::Mark(other) => is_same(mark, *other),
             _ => false,
+        }
+    }
+
+    /// Whether it is the word.
+    pub fn is_word(&self, word: Word) -> bool
+        ensures { result ≡ is_word_lexeme word (lexeme_of self.now) }
+    {
+        match self {
+            Lexeme::Word(other) => is_same_word(word, *other),
+            _ => false,
+        }
+    }
+
+    /// Whether it is a name behind a point.
+    pub fn is_name(&self) -> bool
+        ensures { result ≡ is_some (name_of_lexeme (lexeme_of self.now)) }
+    {
+        matches!(self, Lexeme::Plain(_) | Lexeme::Word(_))
+    }
+
+    /// Whether it is a name where an expression begins.
+    pub fn is_operand_name(&self) -> bool
+        ensures { result ≡ is_some (operand_name_of_lexeme (lexeme_of self.now)) }
+    {
+        match self {
+            Lexeme::Plain(_) => true,
+            Lexeme::Word(word) => is_ordinary(*word),
+            _ => false,
+        }
+    }
+
+    /// Whether it alone is an expression: a literal or a name.
+    pub fn is_atom(&self) -> bool
+        ensures { result ≡ is_some (atom_of_lexeme (lexeme_of self.now)) }
+    {
+        match self {
+            Lexeme::Integer(_) | Lexeme::Text(_) => true,
+            Lexeme::Word(Word::True | Word::False | Word::Null | Word::Undefined) => true,
+            _ => self.is_operand_name(),
         }
     }
 
@@ -162,7 +216,7 @@ impl Lexeme {
 fn ordinary_name(alloc: Global, word: Word) -> Result<Option<Name>, AllocError>
     ensures { IfOk result (λ name. name ≡ ordinary_name word) }
 {
-    if is_keyword(word) || is_unsupported(word) {
+    if !is_ordinary(word) {
         return Ok(None);
     }
     Ok(Some(word_name(alloc, word)?))

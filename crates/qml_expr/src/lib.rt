@@ -13,7 +13,7 @@ mod token;
 pub use cursor::Cursor;
 pub use lexeme::Lexeme;
 pub use natural::Natural;
-pub use parser::{expression, member, whole_expression};
+pub use parser::{MAX_NODES, expression, member, whole_expression};
 pub use token::Token;
 
 #[cfg(test)]

@@ -14,7 +14,7 @@ use sqlite_items::{Boxed, Items};
 use std::alloc::{AllocError, Global};
 
 /// How many nodes an outermost expression may have.
-const MAX_NODES: u32 = 200;
+pub const MAX_NODES: u32 = 200;
 
 /// Reads the longest expression that the tokens begin with, of at most 200 nodes, and goes behind it.
 /// `levels` more levels may be opened in it: by parentheses, the arguments of a call, an operator before
@@ -23,6 +23,8 @@ const MAX_NODES: u32 = 200;
 /// The first fault has its place: `Syntax` at a token that cannot stand there, `Unsupported` where QML
 /// has that token and the engine has not, `TooDeep` at a token that opens a level or is a node too many.
 /// `NoMemory` comes where memory runs out. Nothing is told of the cursor after a fault.
+///
+/// The forms are those of ECMAScript 5.1, section 11, cut to the profile of this engine.
 #[tactic(auto, unfolding(qml_grammar::specs::Expressions::whole, crate::specs::Seen::input_of))]
 pub fn whole_expression(
     alloc: Global,
@@ -138,6 +140,7 @@ fn operands(
 }
 
 // An operand of the level's operators.
+#[inline(always)]
 #[cycle(expression)]
 fn operand(
     alloc: Global,

@@ -8,3 +8,4 @@ pub mod Order
 pub mod Words
 pub mod Utf8
 pub mod Spelling
+pub mod Scanning

@@ -1,6 +1,6 @@
 -- What the text of each token is.
-use Rattle.std.proofs.Common.{inl, inr, ◌≡◌, ℕ, zero, suc, ◌+◌, ◌-◌, ◌<◌, ◌≤◌, Bool, true, false, cond, ◌&&◌, ◌||◌, leb, eqb, eqb-true, leb-true, List, [], ◌∷◌, length, take, drop, drop-cons, get_or, Option, None, Some, Result, Ok, Err, sym, refl, ap, ◌∙◌, subst, arith}
-use Rattle.std.specs.Prelude.{nat_eq, MatchResult, IfOk, codes, slice_range, find, is_some, bytes_eq, option_and_then}
+use Rattle.std.proofs.Common.{inl, inr, ◌≡◌, ℕ, zero, suc, ◌+◌, ◌-◌, ◌<◌, ◌≤◌, Bool, true, false, cond, ◌&&◌, ◌||◌, leb, eqb, eqb-true, leb-true, List, [], ◌∷◌, length, take, drop, drop-cons, get_or, Option, None, Some, sym, refl, ap, ◌∙◌, subst, arith}
+use Rattle.std.specs.Prelude.{nat_eq, codes, slice_range, find, is_some, bytes_eq, option_and_then}
 use Rattle.std.specs.List.{starts_with, list_all, list_any, prefix_len, All, AllByRecursion}
 use Rattle.std.specs.Char.{is_ascii_digit}
 use Rattle.std.specs.Str.{IsUtf8}
@@ -18,8 +18,7 @@ use Rattle.qml_lex.specs.Marks.{marks, mark_of}
 use Rattle.qml_lex.specs.Texts.{body_len, body_len_after, value_of, part_of, spelled_len}
 use Rattle.qml_lex.specs.Pieces.{name_piece, is_fraction, decimal_piece, number_piece, text_of_body, text_piece, line_comment, before_close, comment_of_len, block_comment, piece_of_mark, blank_piece, other_piece, piece_of}
 use Rattle.qml_lex.specs.Meaning.{IsName, IsDecimal, IsQuoted, IsSpelled, whole_len, body_of}
-use Rattle.qml_lex.specs.Reading.{HasTokens, at_end, past_blank, past_lexeme, IsStopped}
-use Rattle.qml_ast.specs.declared.fault.DocFault.{DocFault}
+use Rattle.qml_lex.specs.Reading.{HasTokens, at_end, past_blank, past_lexeme}
 use Rattle.qml_lex.specs.declared.token.Token.{Token}
 use Rattle.qml_lex.specs.declared.text.Part.{Part}
 use Rattle.qml_lex.specs.declared.token.TokenKind.{TokenKind}
@@ -271,16 +270,20 @@ cuts_at bytes i u h m within first later =
     let P : List ℕ → Type 0 = λ l. IsUtf8 (take m l) in
     subst P (sym same) (rw len at between)
 
-spelled_from : (bytes : List ℕ) (offset : ℕ) (tokens : List Token) → IsUtf8 bytes → HasTokens bytes offset tokens → AllByRecursion (λ token. IsSpelled token.kind (slice_range bytes token.start token.end)) tokens
+-- a token of a text is spelled as its kind is
+pub token_is_spelled : (bytes : List ℕ) (offset n : ℕ) (kind : TokenKind) → IsUtf8 bytes → piece_of (drop offset bytes) ≡ Lexeme kind n → (0 < n) × (offset + n ≤ length bytes) → IsSpelled kind (slice_range bytes offset (offset + n))
+token_is_spelled bytes offset n kind u is within =
+    let len : n ≡ offset + n - offset = omega arith in
+    let P : ℕ → Type 0 = λ l. IsSpelled kind (take l (drop offset bytes)) in
+    subst P len (piece_spelled (drop offset bytes) kind n (cuts_at bytes offset u (omega (arith, within))) is)
+
+pub spelled_from : (bytes : List ℕ) (offset : ℕ) (tokens : List Token) → IsUtf8 bytes → HasTokens bytes offset tokens → AllByRecursion (λ token. IsSpelled token.kind (slice_range bytes token.start token.end)) tokens
 spelled_from bytes offset tokens u (at_end _ _ is nil) = rw nil tt
 spelled_from bytes offset tokens u (past_blank _ n next _ is w e d) = spelled_from bytes next tokens u d
 spelled_from bytes offset tokens u (past_lexeme _ n next kind _ following is w e t d) =
-    let len : n ≡ offset + n - offset = omega arith in
     let P : List Token → Type 0 = λ ts. AllByRecursion (λ token. IsSpelled token.kind (slice_range bytes token.start token.end)) ts in
-    let Q : ℕ → Type 0 = λ l. IsSpelled kind (take l (drop offset bytes)) in
-    subst P (sym t) (subst Q len (piece_spelled (drop offset bytes) kind n (cuts_at bytes offset u (omega (arith, w))) is), spelled_from bytes next following u d)
+    subst P (sym t) (token_is_spelled bytes offset n kind u is w, spelled_from bytes next following u d)
 
-pub tokens_are_spelled : (bytes : List ℕ) (offset : ℕ) (result : Result (List Token) DocFault) → IsUtf8 bytes → MatchResult result (HasTokens bytes offset) (IsStopped bytes offset) → IfOk result (All (λ token. IsSpelled token.kind (slice_range bytes token.start token.end)))
-tokens_are_spelled bytes offset (Ok tokens) u h =
+pub tokens_are_spelled : (bytes : List ℕ) (offset : ℕ) (tokens : List Token) → IsUtf8 bytes → HasTokens bytes offset tokens → All (λ token. IsSpelled token.kind (slice_range bytes token.start token.end)) tokens
+tokens_are_spelled bytes offset tokens u h =
     All-from_recursion (λ (token : Token). IsSpelled token.kind (slice_range bytes token.start token.end)) tokens (spelled_from bytes offset tokens u h)
-tokens_are_spelled bytes offset (Err fault) u h = tt

@@ -19,7 +19,7 @@ use Rattle.qml_lex.proofs.Inside.{value_of-part, value_of-none}
 use Rattle.qml_lex.proofs.LongestMark.{and_left, and_right}
 
 -- bytes that are no ASCII stand for themselves
-abbrev AllHigh : List ℕ → Type 0
+abbrev pub AllHigh : List ℕ → Type 0
 AllHigh [] = Unit {0}
 AllHigh (x ∷ xs) = (128 ≤ x) × AllHigh xs
 
@@ -35,7 +35,7 @@ value_of_high [] rest h = refl
 value_of_high (x ∷ xs) rest h = value_of-part x (xs ++ rest) (Raw x) (high_part x (xs ++ rest) h.0) ∙ ap (λ v. x ∷ v) (value_of_high xs rest h.1)
 
 -- the bytes of a character that is no ASCII
-encode_high : (c : ℕ) → 128 ≤ c → AllHigh (encode_utf8 c)
+pub encode_high : (c : ℕ) → 128 ≤ c → AllHigh (encode_utf8 c)
 unfolding encode
 encode_high c h =
     let past_one : ltb c 128 ≡ false = le-ltb c 128 h in
@@ -140,7 +140,7 @@ part_fits byte rest h =
 utf8_behind : (ys : List ℕ) (n : ℕ) → IsUtf8 ys → n + 1 ≤ length ys → get_or ys n 0 < 128 → IsUtf8 (drop (n + 1) ys)
 utf8_behind ys n u h low = IsUtf8-drop ys (n + 1) u (IsCharBoundary-after_ascii ys n u (omega arith) low)
 
-value_of-nil : value_of [] ≡ []
+pub value_of-nil : value_of [] ≡ []
 unfolding value_of
 value_of-nil = refl
 

@@ -6,4 +6,5 @@ pub mod Numbers
 pub mod Pieces
 pub mod Places
 pub mod Reading
+pub mod Scanning
 pub mod Texts

@@ -32,6 +32,7 @@ pub fn is_quote(byte: u8) -> bool
 }
 
 /// How many bytes from the front on are letters, digits and `_`.
+#[inline(never)]
 pub fn word_len(text: &[u8]) -> usize
     ensures value { result ≡ prefix_len is_word text.now }
     ensures within { result ≤ length text.now }
@@ -56,6 +57,7 @@ pub fn digit_len(text: &[u8]) -> usize
 }
 
 /// How many bytes from the front on are blanks.
+#[inline(never)]
 pub fn blank_len(text: &[u8]) -> usize
     ensures value { result ≡ prefix_len is_blank text.now }
     ensures within { result ≤ length text.now }

@@ -4,6 +4,7 @@ ghost use Rattle.qml_lex.specs.Bytes.{is_line_end};
 ghost use Rattle.qml_lex.specs.Pieces.{before_close};
 
 /// How many bytes stand before the end of the first line.
+#[inline(never)]
 pub fn line_len(text: &[u8]) -> usize
     ensures value { result ≡ position_or_len is_line_end text.now }
     ensures within { result ≤ length text.now }

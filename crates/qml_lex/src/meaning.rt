@@ -20,15 +20,23 @@ pub struct DecimalValue {
     pub fraction: u32,
 }
 
+/// A name's text as a string.
+pub fn name_text(text: &[u8]) -> &str
+    requires { IsSpelled kinds.Name text.now }
+    ensures { result.now ≡ text.now }
+{
+    match str::from_utf8(text) {
+        Ok(name) => name,
+        Err(_) => unreachable!(),
+    }
+}
+
 /// The name that a name's text is.
 pub fn name_value(alloc: Global, text: &[u8]) -> Result<Name, AllocError>
     requires { IsSpelled kinds.Name text.now }
     ensures { IfOk result (λ name. name ≡ text.now) }
 {
-    match str::from_utf8(text) {
-        Ok(name) => Name::new(alloc, name),
-        Err(_) => unreachable!(),
-    }
+    Name::new(alloc, name_text(text))
 }
 
 /// The value of an integer's text.

@@ -4,6 +4,7 @@ ghost use Rattle.qml_lex.specs.Places.{place_of};
 use qml_ast::span::Span;
 
 /// The place of the byte at offset `end` of a text, by the place of the one at offset `start`.
+#[inline(never)]
 #[tactic(auto, using(crate::proofs::Placing::placing))]
 pub fn advance(bytes: &[u8], place: Span, start: usize, end: usize) -> Span
     requires from { place ≡ place_of bytes.now start }
@@ -23,4 +24,13 @@ pub fn advance(bytes: &[u8], place: Span, start: usize, end: usize) -> Span
         }
     }
     Span { line, col }
+}
+
+/// The place behind the last byte of a text, which has at most 2^31 bytes.
+#[tactic(auto, unfolding(crate::specs::Places::line_after, crate::specs::Places::column_after))]
+pub fn end_place(bytes: &[u8]) -> Span
+    requires { length bytes.now ≤ 2 ^ 31 }
+    ensures { result ≡ place_of bytes.now (length bytes.now) }
+{
+    advance(bytes, Span { line: 1, col: 1 }, 0, bytes.len())
 }

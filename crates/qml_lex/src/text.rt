@@ -94,6 +94,7 @@ fn escape(text: &[u8]) -> Option<Part>
 }
 
 // What these bytes of a text begin with.
+#[inline(always)]
 #[tactic(auto, unfolding(crate::specs::Texts::part_of))]
 fn first_part(text: &[u8]) -> Option<Part>
     ensures value { result ≡ part_of text.now }
@@ -108,6 +109,7 @@ fn first_part(text: &[u8]) -> Option<Part>
 
 /// How many bytes stand before the closing quote; none where the text has no end or something inside
 /// it is neither an escape nor a byte that may stand for itself.
+#[inline(never)]
 #[tactic(auto, using(crate::proofs::Inside::inside))]
 pub fn body_len(quote: u8, text: &[u8]) -> Option<usize>
     ensures value { result ≡ body_len quote text.now }
@@ -127,6 +129,7 @@ pub fn body_len(quote: u8, text: &[u8]) -> Option<usize>
 }
 
 /// How many bytes the value has of what stands between the quotes of a text.
+#[inline(never)]
 #[tactic(auto, using(crate::proofs::Inside::inside))]
 pub fn value_len(body: &[u8]) -> usize
     ensures { result ≡ length (value_of body.now) }
@@ -146,10 +149,11 @@ pub fn value_len(body: &[u8]) -> usize
 }
 
 /// The value of what stands between the quotes of a text.
+#[inline(never)]
 pub fn value_bytes(alloc: Global, body: &[u8]) -> Result<Vec<u8>, AllocError>
     ensures { IfOk result (λ value. value.items ≡ value_of body.now) }
 {
-    let mut value = Vec::new(alloc);
+    let mut value = Vec::with_capacity(alloc, body.len())?;
     let mut at = 0;
     while at < body.len() {
         match first_part(&body[at..]) {

@@ -1,4 +1,6 @@
-pub mod Steps
-pub mod Leading
-pub mod Cutting
-pub mod Whole
+pub mod Names
+pub mod OneReading
+pub mod Printed
+pub mod Refusing
+pub mod Spelling
+pub mod Turns

@@ -1,8 +1,3 @@
-pub mod Answers
-pub mod Building
-pub mod Grammar
-pub mod Lawful
-pub mod Lexing
-pub mod Meaning
-pub mod Spelling
-pub mod Tree
+pub mod Values
+pub mod Followers
+pub mod Parsed

@@ -1,21 +1,25 @@
-//! Reads the first form of QML documents: rectangles in rectangles, with literal geometry and colours.
-//! What a document is and what it means stands in `specs/`, apart from the reader, which is proved to
-//! read just the documents.
+//! The parser of QML documents: from the bytes of a text to the document that they spell, or to its first
+//! fault with its place. Contracts say that each function reads what the grammar's definition reads.
 #![tactic(auto)]
 
-mod builder;
+mod decl;
 pub mod document;
-mod draft;
-mod fault;
+mod import;
 pub mod laws;
-mod lexer;
-mod part;
-pub mod reader;
-pub mod token;
+mod lookahead;
+mod member;
+mod method;
+mod path;
+mod signal;
+mod value;
 
-pub use document::{Document, RectDecl};
+pub use document::parse;
 pub use laws::one_reading;
-pub use reader::parse;
+pub use qml_print::print;
 
 #[cfg(test)]
+mod print_tests;
+#[cfg(test)]
 mod tests;
+#[cfg(test)]
+mod told;

@@ -1,137 +1,890 @@
-//! Texts with the objects that they are expected to have, worked out by hand from the language's rules.
-
-use crate::document::RectDecl;
-use crate::reader::parse;
+use crate::parse;
+use crate::told::{answer, nested_answer, parsed, told_document, told_fault};
 use qml_ast::{DocFault, Span};
 use std::alloc::Global;
 use std::process::Abort;
 use std::test::Fail;
 
-const WHITE: u32 = 0xffff_ffff;
+// Whole documents
 
-/// An object of a document, whose numbers are x, y, width and height.
-fn rect(owner: Option<usize>, numbers: [u32; 4], color: u32) -> RectDecl {
-    let [x, y, width, height] = numbers;
-    RectDecl {
-        owner,
-        x,
-        y,
-        width,
-        height,
-        color,
-    }
+const EACH_MEMBER: &str = "import QtQuick 2.05
+Item {
+  id: a
+  property int b: (1)
+  readonly property A c: A { }
+  property var d
+  signal s(int x, A y)
+  signal t
+  function f(x, y) { ; ; }
+  border { color: 'red'; width: 2 }
+  Component.onCompleted: b = 2
+  x: b
+  Item { }
 }
-
-/// Whether the text is read as a document of these objects.
-fn reads(rt: &impl Abort, alloc: Global, text: &str, expected: &[RectDecl]) -> Result<bool, Fail> {
-    assert!(rt; text.len() <= 0x8000_0000);
-    let document = parse(alloc, text.as_bytes())?;
-    Ok(document.objects() == expected)
-}
-
-/// Whether the bytes are refused at line 1, column 1.
-fn refuses(rt: &impl Abort, alloc: Global, bytes: &[u8]) -> bool {
-    assert!(rt; bytes.len() <= 0x8000_0000);
-    let at = Span { line: 1, col: 1 };
-    match parse(alloc, bytes) {
-        Ok(_) => false,
-        Err(fault) => fault == DocFault::Unsupported { at },
-    }
-}
+";
 
 #[test]
-fn documents(rt: HostRuntime) -> Result<(), Fail> {
-    let alloc = rt.alloc();
-    let blank = rect(None, [0, 0, 0, 0], WHITE);
-    for text in [
-        "Rectangle{}",
-        " \n Rectangle \n{ \n}\n\n ",
-        "Rectangle { x: 0 }",
-        "Rectangle{x:0;y:0;width:0;height:0;color:\"#FFFFff\"}",
-    ] {
-        assert!(rt; reads(&rt, alloc, text, &[blank])?, "{text}");
-    }
-
-    let text = "Rectangle { x: 1; y: 20\n; width: 300 ; height: 2147483647; color: \"#12aBcD\" }";
-    let all = rect(None, [1, 20, 300, 2_147_483_647], 0xff12_abcd);
-    assert!(rt; reads(&rt, alloc, text, &[all])?);
-
-    let text =
-        "Rectangle { Rectangle { x: 4; Rectangle { y: 5 } width: 6 } height: 7; Rectangle { } x: 8; }";
-    let nested = [
-        rect(None, [8, 0, 0, 7], WHITE),
-        rect(Some(0), [4, 0, 6, 0], WHITE),
-        rect(Some(1), [0, 5, 0, 0], WHITE),
-        rect(Some(0), [0, 0, 0, 0], WHITE),
-    ];
-    assert!(rt; reads(&rt, alloc, text, &nested)?);
+fn each_member(rt: HostRuntime) -> Result<(), Fail> {
+    let document = parsed(&rt, rt.alloc(), EACH_MEMBER.as_bytes())?;
+    let told = told_document(rt.alloc(), &document)?;
+    assert_eq!(rt;
+        told.as_str(),
+        "QtQuick 2.5 1:8; Item 2:1 {id a 3:7; \
+        property false int 4:12 b 4:16 = 1 4:20; \
+        property true A 5:21 c 5:23 = A 5:26 {} 5:26; \
+        property false var 6:12 d 6:16 = nothing 6:16; \
+        signal s 7:10 int 7:12 x 7:16 A 7:19 y 7:21; \
+        signal t 8:10; \
+        method f 9:12 x 9:14 y 9:17 of 2; \
+        border.color 10:12 = red 10:19; \
+        border.width 10:26 = 2 10:33; \
+        Component.onCompleted 11:3 does assignment; \
+        x 12:3 = b 12:6; \
+        Item 13:3 {}; }"
+    );
     Ok(())
 }
 
+const LAWFUL: &[&str] = &[
+    // Tokens
+    "Item { }",
+    "Item { objectName: \"a\rb\" }",
+    "Item { x: '\0a\tb\u{7f}' + \"\\u0000\\n\\t\\r\\\\\\\"\\'\" }",
+    "Item { x: 0x000F + 0x7fffffff + 2147483647 + 0 }",
+    "Item { x: 1.x; y: 1 .x }",
+    "/*/ * */Item { /**/ x: 1 // é \r @\n} // }",
+    "\r\n\tItem\r{\r}\r",
+    // Imports
+    "\u{feff}import QtQuick 2.0; import QtQuick 2.15\n// all\nItem { }",
+    "import\nQtQuick\n02.05\nimport QtQuick 2.015;Item { }",
+    // Ends
+    "Item { x: 1\ny: 2 }",
+    "Item { x: 1; y: 2; }",
+    "Item { onXChanged: a;; }",
+    "Item { onXChanged: ;; }",
+    "Item { onXChanged: { }; }",
+    "Item { onXChanged: if (a) { }; }",
+    "Item { onXChanged: a; x: 1 }",
+    "Item { onXChanged: { } x: 1 }",
+    "Item { onXChanged: if (a) { } x: 1 }",
+    "Item { onXChanged: if (a) b; else c; x: 1 }",
+    "Item { p: A { } x: 1; A { } x: 1 }",
+    "Item { property A p: A { } x: 1; signal s; y: 2 }",
+    "Item { g { x: 1; y: A { } z: 2; } x: 1 }",
+    "Item { function f() { } x: 1 }",
+    "Item { onFoo: { a; b;; { } c } }",
+    // Lines inside a member
+    "Item { p: A\n{ } }",
+    "Item { signal s\n(int a) }",
+    "Item { onFoo: { a\n= 1\nb\n(c) } }",
+    "Item\n{\nproperty\nint\na\n:\n1\nreadonly\nproperty\nint\nb }",
+    // Groups
+    "Item { anchors { fill: parent; foo: 1 } }",
+    "Item { foo { } }",
+    "Item { g { else: 1; default: 2; id: 3; function: 4; enum: 5; required: 6; property: 7; if: 8 } }",
+    "Item { states.x: 1; states { x: 1 } property var states }",
+    // Words that are names
+    "Item { id: true }",
+    "Item { if: 1 }",
+    "Item { if: 1; Foo: 2; import: 3; on: 4; alias: 5; as: 6; true: 7; this.x: 8; x.else: 9 }",
+    "Item { property int while; property var function; property if a; signal var }",
+    "Item { x: a.if.function.else.true }",
+    "Item { x: alias + as + on + enum + required + default + import + id + property + signal + readonly }",
+    "Item { onFoo: { var function; let if = 1; const true; var this } }",
+    "Item { signal s(alias a) }",
+    "Item { function if(else, this, function) { return a.function } }",
+    // Paths
+    "Item { Component.onFoo: a; onBar: b }",
+    "Item { Component.completed: 1 }",
+    "Item { x: A.b; y: A.B; A.b: 1; A.B: 2 }",
+    "Item { onfoo: 1; on_A: 2; on: 3; onA_: { } }",
+    // Statements
+    "Item { onFoo: return }",
+    "Item { onFoo: { return\na } }",
+    "Item { onFoo: for (var i = 0; i < 3; i++) for (a.b = 1;; a--) while (b) if (c) ; else return d }",
+    "Item { onFoo: for (a += 1;; a /= 2) ; }",
+    "Item { onFoo: if (a) if (b) c; else d\nelse e }",
+];
+
 #[test]
-fn refusals(rt: HostRuntime) {
-    let alloc = rt.alloc();
-    for text in [
-        "",
-        " \n",
-        "Item { }",
-        "rectangle { }",
-        "Rectangle",
-        "Rectangle {",
-        "Rectangle { x: 1",
-        "Rectangle { } }",
-        "Rectangle { } Rectangle { }",
-        "Rectangle { Rectangle { }; }",
-        "Rectangle {\t}",
-        "Rectangle {\r\n}",
-        "Rectangle { // note\n}",
-        "Rectangle { x: 1; x: 1 }",
-        "Rectangle { color: \"#000000\"; color: \"#000000\" }",
-        "Rectangle { z: 1 }",
-        "Rectangle { x 1 }",
-        "Rectangle { x: }",
-        "Rectangle { x: 1;; }",
-        "Rectangle { ; }",
-        "Rectangle { x: 1 y: 2 }",
-        "Rectangle { x: 01 }",
-        "Rectangle { x: 00 }",
-        "Rectangle { x: -1 }",
-        "Rectangle { x: 0.5 }",
-        "Rectangle { x: 1a }",
-        "Rectangle { x: 2147483648 }",
-        "Rectangle { x: 99999999999999999999 }",
-        "Rectangle { x: \"#000000\" }",
-        "Rectangle { color: 1 }",
-        "Rectangle { color: \"#12345\" }",
-        "Rectangle { color: \"#1234567\" }",
-        "Rectangle { color: \"#12345g\" }",
-        "Rectangle { color: \" #123456\" }",
-        "Rectangle { color: '#123456' }",
-        "Rectangle { color: red }",
+fn lawful_documents(rt: HostRuntime) -> Result<(), Fail> {
+    for text in LAWFUL {
+        let answer = answer(rt.alloc(), text.as_bytes())?;
+        assert_eq!(rt; answer.as_str(), "ok", "{text}");
+    }
+    Ok(())
+}
+
+// Faults
+
+// Each text has its answer.
+fn answered(rt: &impl Abort, alloc: Global, rows: &[(&str, &str)]) -> Result<(), Fail> {
+    for (text, wanted) in rows {
+        let answer = answer(alloc, text.as_bytes())?;
+        assert_eq!(rt; answer.as_str(), *wanted, "{text}");
+    }
+    Ok(())
+}
+
+const OUT_OF_PLACE: &[(&str, &str)] = &[
+    // Tokens
+    ("\u{feff}", "Syntax 1:4"),
+    ("Item { x: 1\ry: 2 }", "Syntax 1:13"),
+    ("Item { // }\r }", "Syntax 1:15"),
+    ("Item { x: 1. }", "Syntax 1:14"),
+    ("Item { x: .5 }", "Syntax 1:11"),
+    // Documents and imports
+    ("", "Syntax 1:1"),
+    ("Item\n", "Syntax 2:1"),
+    ("Item {", "Syntax 1:7"),
+    ("Item { Item { }", "Syntax 1:16"),
+    ("Item { } Item { }", "Syntax 1:10"),
+    ("Item { };", "Syntax 1:9"),
+    ("Item { } }", "Syntax 1:10"),
+    ("Item { }\nimport QtQuick 2.5", "Syntax 2:1"),
+    ("item { }", "Syntax 1:1"),
+    ("\u{feff}item { }", "Syntax 1:4"),
+    ("A.b { }", "Syntax 1:2"),
+    ("A.B", "Syntax 1:2"),
+    ("A.B on x { }", "Syntax 1:2"),
+    ("Foo on x { }", "Syntax 1:5"),
+    ("import", "Syntax 1:7"),
+    ("import ;", "Syntax 1:8"),
+    ("import QtQuick 2", "Syntax 1:16"),
+    ("import QtQuick . 5", "Syntax 1:18"),
+    ("import QtQuick as Q", "Syntax 1:16"),
+    ("import QtQuick 2.5; as Q", "Syntax 1:21"),
+    ("import QtQuick 2.5;\nas Q", "Syntax 2:1"),
+    ("import QtQuick 2.5 Item { }", "Syntax 1:20"),
+    ("import QtQuick 2.5 import QtQuick 2.5", "Syntax 1:20"),
+    ("import QtQuick 2.5;; Item { }", "Syntax 1:20"),
+    ("import QtQuick 2.5", "Syntax 1:19"),
+    ("import QtQuick 2.5\n{ }", "Syntax 2:1"),
+    // Ends
+    ("Item { onXChanged: a;;; }", "Syntax 1:23"),
+    ("Item { onXChanged: ;;; }", "Syntax 1:22"),
+    ("Item { onXChanged: { };; }", "Syntax 1:24"),
+    ("Item { x: 1;; }", "Syntax 1:13"),
+    ("Item { Item { }; }", "Syntax 1:16"),
+    ("Item { g { }; }", "Syntax 1:13"),
+    ("Item { g { x: 1;; } }", "Syntax 1:17"),
+    ("Item { function f() { }; }", "Syntax 1:24"),
+    ("Item { x: 1 y: 2 }", "Syntax 1:13"),
+    ("Item { id: a x: 1 }", "Syntax 1:14"),
+    ("Item { signal s x: 1 }", "Syntax 1:17"),
+    ("Item { property int a x: 1 }", "Syntax 1:23"),
+    ("Item { onXChanged: a b: 1 }", "Syntax 1:22"),
+    ("Item { onXChanged: { a b } }", "Syntax 1:24"),
+    ("Item { g { x: 1 y: 2 } }", "Syntax 1:17"),
+    // Lines inside a member
+    ("Item { x: a\n-b: 1 }", "Syntax 2:3"),
+    ("Item { x: a\n -b: 1 }", "Syntax 2:4"),
+    ("Item { onFoo: { a\n++\nb } }", "Syntax 2:1"),
+    ("Item { onFoo: { a\n-- } }", "Syntax 2:1"),
+    ("Item { onFoo: return\na }", "Syntax 2:3"),
+    // `else`
+    ("Item { else: 3 }", "Syntax 1:8"),
+    ("Item { onXChanged: if (a) b;; else: 3 }", "Syntax 1:31"),
+    ("Item { onXChanged: if (a) b; else: 3 }", "Syntax 1:34"),
+    ("Item { onXChanged: if (a) { }; else b }", "Syntax 1:32"),
+    ("Item { onXChanged: { if (a) { }; else b } }", "Syntax 1:34"),
+    ("Item { onXChanged: if (a) else b }", "Syntax 1:27"),
+    ("Item { onXChanged: else }", "Syntax 1:20"),
+    // Members
+    ("Item { ; }", "Syntax 1:8"),
+    ("Item { 1: 2 }", "Syntax 1:8"),
+    ("Item { { } }", "Syntax 1:8"),
+    ("Item { x }", "Syntax 1:10"),
+    ("Item { x: }", "Syntax 1:11"),
+    ("Item { id: 1 }", "Syntax 1:12"),
+    ("Item { id.x: 1 }", "Syntax 1:10"),
+    ("Item { id { } }", "Syntax 1:11"),
+    ("Item { property: 1 }", "Syntax 1:16"),
+    ("Item { property int: 1 }", "Syntax 1:20"),
+    ("Item { property a.b c }", "Syntax 1:18"),
+    ("Item { readonly int a }", "Syntax 1:17"),
+    ("Item { readonly required property int a }", "Syntax 1:17"),
+    ("Item { signal: 1 }", "Syntax 1:14"),
+    ("Item { signal s: 1 }", "Syntax 1:16"),
+    ("Item { signal s(, int a) }", "Syntax 1:17"),
+    ("Item { signal s(int) }", "Syntax 1:20"),
+    ("Item { signal s(int a,) }", "Syntax 1:23"),
+    ("Item { signal s(int a int b) }", "Syntax 1:23"),
+    ("Item { signal s(a.b c) }", "Syntax 1:18"),
+    ("Item { function: 1 }", "Syntax 1:16"),
+    ("Item { function f { } }", "Syntax 1:19"),
+    ("Item { function f(1) { } }", "Syntax 1:19"),
+    ("Item { function f(a b) { } }", "Syntax 1:21"),
+    ("Item { function f(a,) { } }", "Syntax 1:21"),
+    ("Item { function f() a }", "Syntax 1:21"),
+    // Paths, groups and type names
+    ("Item { anchors.onFoo: 1 }", "Syntax 1:16"),
+    ("Item { anchors { onFoo: 1 } }", "Syntax 1:18"),
+    ("Item { A.onFoo: 1 }", "Syntax 1:10"),
+    ("Item { a.b.c: 1 }", "Syntax 1:11"),
+    ("Item { a.b.c { } }", "Syntax 1:11"),
+    ("Item { A.b { } }", "Syntax 1:12"),
+    ("Item { A.b.c { } }", "Syntax 1:11"),
+    ("Item { a.B { } }", "Syntax 1:12"),
+    ("Item { A.b on x { } }", "Syntax 1:12"),
+    ("Item { Component.onCompleted { } }", "Syntax 1:30"),
+    ("Item { _a { } }", "Syntax 1:11"),
+    ("Item { x: _a { } }", "Syntax 1:14"),
+    ("Item { x: foo { } }", "Syntax 1:15"),
+    ("Item { x: A.b { } }", "Syntax 1:15"),
+    ("Item { x: a.B\n{ } }", "Syntax 2:1"),
+    ("Item { foo on x { } }", "Syntax 1:12"),
+    ("Item { p: Foo on x { } }", "Syntax 1:15"),
+    ("Item { g { A { } } }", "Syntax 1:14"),
+    ("Item { g { A on x { } } }", "Syntax 1:14"),
+    ("Item { g { a.b: 1 } }", "Syntax 1:13"),
+    ("Item { g { property int a } }", "Syntax 1:21"),
+    // Expressions
+    ("Item { x: a in b }", "Syntax 1:13"),
+    ("Item { x: a b }", "Syntax 1:13"),
+    ("Item { x: - }", "Syntax 1:13"),
+    ("Item { x: () }", "Syntax 1:12"),
+    ("Item { x: (a }", "Syntax 1:14"),
+    ("Item { x: f(, a) }", "Syntax 1:13"),
+    ("Item { x: f(a,) }", "Syntax 1:15"),
+    ("Item { x: f(a; }", "Syntax 1:14"),
+    ("Item { x: a.1 }", "Syntax 1:13"),
+    ("Item { x: a.(b) }", "Syntax 1:13"),
+    ("Item { x: a : b }", "Syntax 1:13"),
+    ("Item { x: a ? b }", "Syntax 1:17"),
+    ("Item { x: a++ }", "Syntax 1:12"),
+    ("Item { x: a = 1 }", "Syntax 1:13"),
+    // Statements
+    ("Item { onFoo: var }", "Syntax 1:19"),
+    ("Item { onFoo: var 1 }", "Syntax 1:19"),
+    ("Item { onFoo: var a, b }", "Syntax 1:20"),
+    ("Item { onFoo: f() = 1 }", "Syntax 1:19"),
+    ("Item { onFoo: (a) = 1 }", "Syntax 1:19"),
+    ("Item { onFoo: 1++ }", "Syntax 1:16"),
+    ("Item { onFoo: ++a }", "Syntax 1:15"),
+    ("Item { onFoo: { var if; if = 1 } }", "Syntax 1:28"),
+    ("Item { onFoo: { var true; true = 1 } }", "Syntax 1:32"),
+    ("Item { onFoo: if a }", "Syntax 1:18"),
+    ("Item { onFoo: while a }", "Syntax 1:21"),
+    // Parts of `for`
+    ("Item { onClicked: for (let i = 0;;) a }", "Syntax 1:24"),
+    ("Item { onClicked: for (const i = 0;;) a }", "Syntax 1:24"),
+    ("Item { onClicked: for (var i;;) a }", "Syntax 1:29"),
+    ("Item { onClicked: for (var i in a) b }", "Syntax 1:30"),
+    ("Item { onClicked: for (a;;) b }", "Syntax 1:25"),
+    ("Item { onClicked: for (f();;) a }", "Syntax 1:25"),
+    ("Item { onClicked: for ({;;) a }", "Syntax 1:24"),
+    ("Item { onClicked: for (;var i = 0;) a }", "Syntax 1:25"),
+    ("Item { onClicked: for (;;a) b }", "Syntax 1:27"),
+    ("Item { onClicked: for (;;f()) a }", "Syntax 1:27"),
+    ("Item { onClicked: for (;;{) a }", "Syntax 1:26"),
+    ("Item { onClicked: for (;;let i = 0) a }", "Syntax 1:26"),
+];
+
+#[test]
+fn tokens_that_cannot_stand_there(rt: HostRuntime) -> Result<(), Fail> {
+    answered(&rt, rt.alloc(), OUT_OF_PLACE)
+}
+
+const ONLY_QML: &[(&str, &str)] = &[
+    // Imports
+    ("import Foo", "Unsupported 1:8"),
+    ("import Foo 2", "Unsupported 1:8"),
+    ("import Foo 2.5 as F", "Unsupported 1:8"),
+    ("import qtquick 2.5", "Unsupported 1:8"),
+    ("import QtQuick.Controls 2.5", "Unsupported 1:8"),
+    ("import QtQuick 2.16", "Unsupported 1:8"),
+    ("import QtQuick 2.99999999999", "Unsupported 1:8"),
+    ("import QtQuick 1.5", "Unsupported 1:8"),
+    ("import QtQuick 3.0", "Unsupported 1:8"),
+    ("import \"a.js\"", "Unsupported 1:8"),
+    ("import 'a.js' as A", "Unsupported 1:8"),
+    ("import QtQuick 2.5 as Q", "Unsupported 1:20"),
+    ("import QtQuick 2.5\nas Q", "Unsupported 2:1"),
+    // `[`
+    ("[", "Unsupported 1:1"),
+    ("Item { } [", "Unsupported 1:10"),
+    ("Item [", "Unsupported 1:6"),
+    ("import [", "Unsupported 1:8"),
+    ("import QtQuick 2.5 [", "Unsupported 1:20"),
+    ("Item { [ }", "Unsupported 1:8"),
+    ("\u{feff}Item { id: [ }", "Unsupported 1:15"),
+    ("Item { x[0]: 1 }", "Unsupported 1:9"),
+    ("Item { g { [ } }", "Unsupported 1:12"),
+    ("Item { property [ }", "Unsupported 1:17"),
+    ("Item { property var a [ }", "Unsupported 1:23"),
+    ("Item { signal s[ }", "Unsupported 1:16"),
+    ("Item { function f([ }", "Unsupported 1:19"),
+    ("Item { x: [1] }", "Unsupported 1:11"),
+    ("Item { x: 1 + [1] }", "Unsupported 1:15"),
+    ("Item { x: -[1] }", "Unsupported 1:12"),
+    ("Item { x: f([1]) }", "Unsupported 1:13"),
+    ("Item { x: a ? [1] : b }", "Unsupported 1:15"),
+    ("Item { x: a[1] }", "Unsupported 1:12"),
+    ("Item { x: (a [ }", "Unsupported 1:14"),
+    ("Item { p: A { }[ }", "Unsupported 1:16"),
+    ("Item { onFoo: [1] }", "Unsupported 1:15"),
+    ("Item { onFoo: a[1] = 2 }", "Unsupported 1:16"),
+    ("Item { onFoo: return [1] }", "Unsupported 1:22"),
+    ("Item { onFoo: if [ }", "Unsupported 1:18"),
+    ("Item { onFoo: for ([ }", "Unsupported 1:20"),
+    ("Item { onFoo: { var [ } }", "Unsupported 1:21"),
+    // `{` where an expression begins
+    ("Item { x: { } }", "Unsupported 1:11"),
+    ("Item { property var a: { } }", "Unsupported 1:24"),
+    ("Item { g { x: { } } }", "Unsupported 1:15"),
+    ("Item { onfoo: { } }", "Unsupported 1:15"),
+    ("Item { Component.foo: { } }", "Unsupported 1:23"),
+    ("Item { x: 1 + { } }", "Unsupported 1:15"),
+    ("Item { x: a && { } }", "Unsupported 1:16"),
+    ("Item { x: -{ } }", "Unsupported 1:12"),
+    ("Item { x: ({ }) }", "Unsupported 1:12"),
+    ("Item { x: f({ }) }", "Unsupported 1:13"),
+    ("Item { x: f(a, { }) }", "Unsupported 1:16"),
+    ("Item { x: a ? { } : b }", "Unsupported 1:15"),
+    ("Item { x: a ? b : { } }", "Unsupported 1:19"),
+    ("Item { onFoo: a = { } }", "Unsupported 1:19"),
+    ("Item { onFoo: var a = { } }", "Unsupported 1:23"),
+    ("Item { onFoo: return { } }", "Unsupported 1:22"),
+    ("Item { onFoo: if ({ }) a }", "Unsupported 1:19"),
+    ("Item { onFoo: while ({ }) a }", "Unsupported 1:22"),
+    ("Item { onFoo: for (;{ };) a }", "Unsupported 1:21"),
+    ("Item { onFoo: for (a = { };;) b }", "Unsupported 1:24"),
+    ("Item { onFoo: for (;;a = { }) b }", "Unsupported 1:26"),
+    // Decimals
+    ("Item { x: 0.5 }", "Unsupported 1:11"),
+    ("Item { width: 0.5 }", "Unsupported 1:15"),
+    ("Item { x: 00.5 }", "Unsupported 1:11"),
+    ("Item { x: 99999999999.5 }", "Unsupported 1:11"),
+    ("Item { x: 1.5.x }", "Unsupported 1:11"),
+    ("Item { x: 1 + 0.5 }", "Unsupported 1:15"),
+    ("Item { x: -0.5 }", "Unsupported 1:12"),
+    ("Item { x: f(0.5) }", "Unsupported 1:13"),
+    ("Item { x: a.0.5 }", "Unsupported 1:13"),
+    ("Item { x: 1 0.5 }", "Unsupported 1:13"),
+    ("Item { onFoo: 0.5 }", "Unsupported 1:15"),
+    ("Item { onFoo: a = 0.5 }", "Unsupported 1:19"),
+    ("Item { onFoo: if (0.5) a }", "Unsupported 1:19"),
+    ("Item { 0.5 }", "Unsupported 1:8"),
+    ("Item { } 0.5", "Unsupported 1:10"),
+    ("0.5", "Unsupported 1:1"),
+    ("import 2.5", "Unsupported 1:8"),
+    ("import QtQuick 2.5 2.5", "Unsupported 1:20"),
+    // What begins a member
+    ("Item { default: 1 }", "Unsupported 1:8"),
+    ("Item { default property int a }", "Unsupported 1:8"),
+    ("Item { default { } }", "Unsupported 1:8"),
+    ("Item { enum E { } }", "Unsupported 1:8"),
+    ("Item { enum: 1 }", "Unsupported 1:8"),
+    ("Item { required property int a }", "Unsupported 1:8"),
+    ("Item { required a }", "Unsupported 1:8"),
+    ("Item { required.a: 1 }", "Unsupported 1:8"),
+    ("Item { Foo on x { } }", "Unsupported 1:12"),
+    ("Item { Foo\non x { } }", "Unsupported 2:1"),
+    ("Item { Foo on: 1 }", "Unsupported 1:12"),
+    // `alias`
+    ("Item { property alias a: b }", "Unsupported 1:17"),
+    ("Item { property alias a }", "Unsupported 1:17"),
+    ("Item { readonly property alias a: b }", "Unsupported 1:26"),
+    // Dotted type names
+    ("A.B { }", "Unsupported 1:1"),
+    ("A.b.C { }", "Unsupported 1:1"),
+    ("Item { A.B { } }", "Unsupported 1:8"),
+    ("Item { A.B\n{ } }", "Unsupported 1:8"),
+    ("Item { A.b.C { } }", "Unsupported 1:8"),
+    ("Item { A.B on x { } }", "Unsupported 1:8"),
+    ("Item { A.b.C on x { } }", "Unsupported 1:8"),
+    ("Item { x: A.B { } }", "Unsupported 1:11"),
+    ("Item { x: A.b.C { } }", "Unsupported 1:11"),
+    ("Item { property A a: A.B { } }", "Unsupported 1:22"),
+    ("Item { g { x: A.B { } } }", "Unsupported 1:15"),
+    ("Item { property A.B c }", "Unsupported 1:17"),
+    ("Item { property A.b c }", "Unsupported 1:17"),
+    ("Item { readonly property A.B c }", "Unsupported 1:26"),
+    ("Item { signal s(A.B c) }", "Unsupported 1:17"),
+    ("Item { signal s(int a, A.b c) }", "Unsupported 1:24"),
+    // `function` where an expression or a statement begins
+    ("Item { x: function() { } }", "Unsupported 1:11"),
+    (
+        "Item { property var a: function() { } }",
+        "Unsupported 1:24",
+    ),
+    ("Item { g { x: function() { } } }", "Unsupported 1:15"),
+    ("Item { x: 1 + function() { } }", "Unsupported 1:15"),
+    ("Item { x: (function() { })() }", "Unsupported 1:12"),
+    ("Item { x: f(function() { }) }", "Unsupported 1:13"),
+    ("Item { x: a ? function() { } : b }", "Unsupported 1:15"),
+    (
+        "Item { onClicked: function(mouse) { } }",
+        "Unsupported 1:19",
+    ),
+    (
+        "Item { onClicked: { function a() { } } }",
+        "Unsupported 1:21",
+    ),
+    (
+        "Item { onClicked: if (a) function b() { } }",
+        "Unsupported 1:26",
+    ),
+    (
+        "Item { onClicked: if (function() { }) a }",
+        "Unsupported 1:23",
+    ),
+    ("Item { onClicked: a = function() { } }", "Unsupported 1:23"),
+    (
+        "Item { onClicked: var a = function() { } }",
+        "Unsupported 1:27",
+    ),
+    (
+        "Item { onClicked: return function() { } }",
+        "Unsupported 1:26",
+    ),
+    // Other words
+    ("Item { x: 1 + this }", "Unsupported 1:15"),
+    ("Item { onClicked: switch (a) { } }", "Unsupported 1:19"),
+    // Of two faults the earlier one
+    ("import Foo [", "Unsupported 1:8"),
+    ("Item { x: 1 + this [ }", "Unsupported 1:15"),
+];
+
+#[test]
+fn what_only_qml_has(rt: HostRuntime) -> Result<(), Fail> {
+    answered(&rt, rt.alloc(), ONLY_QML)
+}
+
+const NO_TOKENS: &[(&str, &str)] = &[
+    ("@", "BadToken 1:1"),
+    ("Item { @ }", "BadToken 1:8"),
+    ("} @", "BadToken 1:3"),
+    ("Item { ) @ }", "BadToken 1:10"),
+    ("Item { [ 0.5 @ }", "BadToken 1:14"),
+    ("Item\r\n{\r\r@", "BadToken 2:4"),
+    ("\u{feff}@", "BadToken 1:4"),
+    ("Item { \u{feff} }", "BadToken 1:8"),
+    ("Item { x: 'é' é }", "BadToken 1:16"),
+    ("Item { } /*", "BadToken 1:10"),
+    ("Item { } /*/", "BadToken 1:10"),
+    ("Item { x: 0.5px }", "BadToken 1:11"),
+    ("Item { x: 0.5_ }", "BadToken 1:11"),
+    ("Item { x: 1é }", "BadToken 1:12"),
+    ("Item { x: 1px }", "BadToken 1:11"),
+    ("Item { x: 01 }", "BadToken 1:11"),
+    ("Item { x: 007 }", "BadToken 1:11"),
+    ("Item { x: -2147483648 }", "BadToken 1:12"),
+    ("Item { x: 0x }", "BadToken 1:11"),
+    ("Item { x: 0X1 }", "BadToken 1:11"),
+    ("Item { x: 0x1g }", "BadToken 1:11"),
+    ("Item { x: 0x80000000 }", "BadToken 1:11"),
+    ("Item {\n x: 'a\n' }", "BadToken 2:5"),
+    ("Item { x: 'a\\\n' }", "BadToken 1:11"),
+    ("Item { x: 'a", "BadToken 1:11"),
+    ("Item { x: 'a\" }", "BadToken 1:11"),
+    ("Item { x: '\\q' }", "BadToken 1:11"),
+    ("Item { x: '\\u12' }", "BadToken 1:11"),
+    ("Item { x: '\\ud800' }", "BadToken 1:11"),
+];
+
+#[test]
+fn texts_that_are_no_tokens(rt: HostRuntime) -> Result<(), Fail> {
+    answered(&rt, rt.alloc(), NO_TOKENS)
+}
+
+#[test]
+fn bytes_that_are_no_utf8(rt: HostRuntime) -> Result<(), Fail> {
+    for (bytes, wanted) in [
+        (b"Item { @ \xff }".as_slice(), "NotUtf8 9"),
+        (b"\xef\xbb\xbf\xff".as_slice(), "NotUtf8 3"),
+        (b"Item { } \xe2\x82".as_slice(), "NotUtf8 9"),
+        (b"Item { x: '\xf0\x9f\x98' }".as_slice(), "NotUtf8 11"),
+        (b"\xed\xa0\x80".as_slice(), "NotUtf8 0"),
+        (b"\xc0\x80".as_slice(), "NotUtf8 0"),
     ] {
-        assert!(rt; refuses(&rt, alloc, text.as_bytes()), "{text}");
+        let answer = answer(rt.alloc(), bytes)?;
+        assert_eq!(rt; answer.as_str(), wanted);
     }
-    assert!(rt; refuses(&rt, alloc, b"Rectangle { }\xff"));
+    Ok(())
 }
 
-/// The text of `levels` objects that stand in each other.
-fn nested(alloc: Global, levels: u32) -> Result<String, Fail> {
-    let mut text = String::new(alloc);
-    for _ in 0..levels {
-        text.push_str("Rectangle { ")?;
+// Words
+
+const FOREIGN: [&str; 16] = [
+    "switch",
+    "do",
+    "break",
+    "continue",
+    "try",
+    "throw",
+    "new",
+    "delete",
+    "typeof",
+    "instanceof",
+    "in",
+    "void",
+    "with",
+    "class",
+    "this",
+    "function",
+];
+
+const BEGINNINGS: [&str; 8] = [
+    "var", "let", "const", "if", "else", "while", "for", "return",
+];
+
+// The word between both parts of each text has the text's answer.
+fn word_answered(
+    rt: &impl Abort,
+    alloc: Global,
+    word: &str,
+    rows: &[([&str; 2], &str)],
+) -> Result<(), Fail> {
+    for ([head, tail], wanted) in rows {
+        let text = format!(in alloc; "{head}{word}{tail}")?;
+        let answer = answer(alloc, text.as_str().as_bytes())?;
+        assert_eq!(rt; answer.as_str(), *wanted, "{text}");
     }
-    for _ in 0..levels {
-        text.push_str("}")?;
-    }
-    Ok(text)
+    Ok(())
 }
+
+const FOREIGN_ROWS: &[([&str; 2], &str)] = &[
+    (["Item { x: ", " }"], "Unsupported 1:11"),
+    (["Item { property var a: ", " }"], "Unsupported 1:24"),
+    (["Item { g { x: ", " } }"], "Unsupported 1:15"),
+    (["Item { x: 1 + ", " }"], "Unsupported 1:15"),
+    (["Item { x: -", " }"], "Unsupported 1:12"),
+    (["Item { x: (", ") }"], "Unsupported 1:12"),
+    (["Item { x: f(", ") }"], "Unsupported 1:13"),
+    (["Item { x: f(a, ", ") }"], "Unsupported 1:16"),
+    (["Item { x: a ? ", " : b }"], "Unsupported 1:15"),
+    (["Item { x: a ? b : ", " }"], "Unsupported 1:19"),
+    (["Item { onFoo: ", " }"], "Unsupported 1:15"),
+    (["Item { onFoo: { ", " } }"], "Unsupported 1:17"),
+    (["Item { onFoo: { a; ", " } }"], "Unsupported 1:20"),
+    (["Item { onFoo: if (a) ", " }"], "Unsupported 1:22"),
+    (["Item { onFoo: if (a) b; else ", " }"], "Unsupported 1:30"),
+    (["Item { onFoo: if (", ") a }"], "Unsupported 1:19"),
+    (["Item { onFoo: while (", ") a }"], "Unsupported 1:22"),
+    (["Item { onFoo: for (;", ";) a }"], "Unsupported 1:21"),
+    (["Item { onFoo: return ", " }"], "Unsupported 1:22"),
+    (["Item { onFoo: a = ", " }"], "Unsupported 1:19"),
+    (["Item { onFoo: var a = ", " }"], "Unsupported 1:23"),
+    (["Item { x: a ", " b }"], "Syntax 1:13"),
+    (["Item { onFoo: a ", " b }"], "Syntax 1:17"),
+    (["Item { onFoo: for (", ";;) a }"], "Syntax 1:20"),
+    (["Item { onFoo: for (;;", ") a }"], "Syntax 1:22"),
+    (["", " { }"], "Syntax 1:1"),
+    (["Item { x: a.", " }"], "ok"),
+    (["Item { id: ", " }"], "ok"),
+    (["Item { g { ", ": 1 } }"], "ok"),
+    (["Item { property int ", "; signal s(int a) }"], "ok"),
+    (["Item { signal ", "; function a(b) { } }"], "ok"),
+    (["Item { function f(", ") { } }"], "ok"),
+    (["Item { onFoo: var ", " }"], "ok"),
+];
 
 #[test]
-fn levels(rt: HostRuntime) -> Result<(), Fail> {
-    let alloc = rt.alloc();
-    let most = nested(alloc, 64)?;
-    assert!(rt; most.len() <= 0x8000_0000);
-    assert_eq!(rt; parse(alloc, most.as_bytes())?.objects().len(), 64);
-    assert!(rt; refuses(&rt, alloc, nested(alloc, 65)?.as_bytes()));
+fn words_that_only_qml_has(rt: HostRuntime) -> Result<(), Fail> {
+    for word in FOREIGN {
+        word_answered(&rt, rt.alloc(), word, FOREIGN_ROWS)?;
+    }
+    Ok(())
+}
+
+const BEGINNING_ROWS: &[([&str; 2], &str)] = &[
+    (["Item { x: ", " }"], "Syntax 1:11"),
+    (["Item { x: 1 + ", " }"], "Syntax 1:15"),
+    (["Item { x: f(", ") }"], "Syntax 1:13"),
+    (["Item { x: a ", " b }"], "Syntax 1:13"),
+    (["Item { onFoo: if (", ") a }"], "Syntax 1:19"),
+    (["Item { onFoo: return ", " }"], "Syntax 1:22"),
+    (["Item { x: a.", " }"], "ok"),
+    (["Item { id: ", " }"], "ok"),
+    (["Item { onFoo: var ", " }"], "ok"),
+];
+
+#[test]
+fn words_that_begin_a_statement(rt: HostRuntime) -> Result<(), Fail> {
+    for word in BEGINNINGS {
+        word_answered(&rt, rt.alloc(), word, BEGINNING_ROWS)?;
+    }
+    Ok(())
+}
+
+// Levels, nodes and sizes
+
+// Each text, whose second and fourth part stand so many times, has its answer.
+fn nested_answered(
+    rt: &impl Abort,
+    alloc: Global,
+    rows: &[([&str; 5], usize, &str)],
+) -> Result<(), Fail> {
+    for (parts, times, wanted) in rows {
+        let answer = nested_answer(alloc, *parts, *times)?;
+        assert_eq!(rt;
+            answer.as_str(),
+            *wanted,
+            "{times} times {}{}",
+            parts[1],
+            parts[2]
+        );
+    }
+    Ok(())
+}
+
+const LEVELS: &[([&str; 5], usize, &str)] = &[
+    // Objects, and what stands in the innermost one.
+    (["", "Item { ", "", "} ", ""], 64, "ok"),
+    (["", "Item { ", "", "} ", ""], 65, "TooDeep 1:454"),
+    (["", "Item { ", "", "", ""], 65, "TooDeep 1:454"),
+    (["", "Item { ", "", "", ""], 64, "Syntax 1:449"),
+    (["", "Item { ", "x: A { }", "} ", ""], 63, "ok"),
+    (["", "Item { ", "x: A { }", "} ", ""], 64, "TooDeep 1:454"),
+    (["", "Item { ", "g { x: 1 }", "} ", ""], 63, "ok"),
+    (["", "Item { ", "g { x: 1 }", "} ", ""], 64, "TooDeep 1:451"),
+    (["", "Item { ", "g { x: A { } }", "} ", ""], 62, "ok"),
+    (
+        ["", "Item { ", "g { x: A { } }", "} ", ""],
+        63,
+        "TooDeep 1:451",
+    ),
+    (["", "Item { ", "function f(a) { }", "} ", ""], 63, "ok"),
+    (
+        ["", "Item { ", "function f(a) { }", "} ", ""],
+        64,
+        "TooDeep 1:463",
+    ),
+    (["", "Item { ", "signal s(int a)", "} ", ""], 64, "ok"),
+    (
+        ["", "Item { ", "onFoo: a = b.c + d * 2", "} ", ""],
+        64,
+        "ok",
+    ),
+    (["", "Item { ", "onFoo: { }", "} ", ""], 63, "ok"),
+    (["", "Item { ", "onFoo: { }", "} ", ""], 64, "TooDeep 1:456"),
+    (
+        ["", "Item { ", "onFoo: if (a) b; else c", "} ", ""],
+        63,
+        "ok",
+    ),
+    (
+        ["", "Item { ", "onFoo: if (a) b; else c", "} ", ""],
+        64,
+        "TooDeep 1:463",
+    ),
+    (["", "Item { ", "onFoo: while (a) { }", "} ", ""], 62, "ok"),
+    (
+        ["", "Item { ", "onFoo: while (a) { }", "} ", ""],
+        63,
+        "TooDeep 1:459",
+    ),
+    (
+        ["", "Item { ", "onFoo: for (a = 1; b; c++) d", "} ", ""],
+        63,
+        "ok",
+    ),
+    (
+        ["", "Item { ", "onFoo: for (a = 1; b; c++) d", "} ", ""],
+        64,
+        "TooDeep 1:476",
+    ),
+    (["", "Item { ", "x: (a)", "} ", ""], 63, "ok"),
+    (["", "Item { ", "x: (a)", "} ", ""], 64, "TooDeep 1:452"),
+    (["", "Item { ", "x: f()", "} ", ""], 63, "ok"),
+    (["", "Item { ", "x: f()", "} ", ""], 64, "TooDeep 1:453"),
+    (["", "Item { ", "x: !-a", "} ", ""], 62, "ok"),
+    (["", "Item { ", "x: !-a", "} ", ""], 63, "TooDeep 1:446"),
+    (["", "Item { ", "x: (a) ? b : c", "} ", ""], 63, "ok"),
+    (
+        ["", "Item { ", "x: a ? b : c", "} ", ""],
+        64,
+        "TooDeep 1:454",
+    ),
+    (
+        ["", "Item { ", "x: a ? (b) : c", "} ", ""],
+        63,
+        "TooDeep 1:449",
+    ),
+    (
+        ["", "Item { ", "x: a ? b : c ? d : e", "} ", ""],
+        63,
+        "TooDeep 1:455",
+    ),
+    // A token that cannot stand there opens no level.
+    (["", "Item { ", "x: )", "} ", ""], 64, "Syntax 1:452"),
+    (
+        ["", "Item { ", "onFoo: if (a) )", "} ", ""],
+        64,
+        "Syntax 1:463",
+    ),
+    (["", "Item { ", "x: { }", "} ", ""], 64, "Unsupported 1:452"),
+    (
+        ["", "Item { ", "onFoo: if (a) this", "} ", ""],
+        64,
+        "Unsupported 1:463",
+    ),
+    (
+        ["", "Item { ", "A.B { }", "} ", ""],
+        64,
+        "Unsupported 1:449",
+    ),
+    // Each form within itself.
+    (["Item { x: ", "f(", "1", ")", " }"], 63, "ok"),
+    (["Item { x: ", "f(", "1", ")", " }"], 64, "TooDeep 1:138"),
+    (
+        ["Item { onFoo: ", "if (a) b; else ", "if (a) b", "", " }"],
+        62,
+        "ok",
+    ),
+    (
+        ["Item { onFoo: ", "if (a) b; else ", "if (a) b", "", " }"],
+        63,
+        "TooDeep 1:967",
+    ),
+    (["I{", "x:I{", "", "}", "}"], 63, "ok"),
+    (["I{", "x:I{", "", "}", "}"], 64, "TooDeep 1:258"),
+    (["I{a{", "x:I{", "", "}", "}}"], 62, "ok"),
+    (["I{a{", "x:I{", "", "}", "}}"], 63, "TooDeep 1:256"),
+    (["I{onA:", "{", "", "}", "}"], 63, "ok"),
+    (["I{onA:", "{", "", "}", "}"], 64, "TooDeep 1:70"),
+    (["I{function f()", "{", "", "}", "}"], 63, "ok"),
+    (["I{function f()", "{", "", "}", "}"], 64, "TooDeep 1:78"),
+    (["Item { x: ", "(", "1", ")", " }"], 63, "ok"),
+    (["Item { x: ", "(", "1", ")", " }"], 64, "TooDeep 1:74"),
+    (["I{x:", "- ", "1", "", "}"], 63, "ok"),
+    (["I{x:", "- ", "1", "", "}"], 64, "TooDeep 1:131"),
+    (["I{x:", "!", "1", "", "}"], 63, "ok"),
+    (["I{x:", "!", "1", "", "}"], 64, "TooDeep 1:68"),
+    (["I{x:a", "?b:c", "", "", "}"], 63, "ok"),
+    (["I{x:a", "?b:c", "", "", "}"], 64, "TooDeep 1:258"),
+    (["I{x:", "a?", "b", ":c", "}"], 63, "ok"),
+    (["I{x:", "a?", "b", ":c", "}"], 64, "TooDeep 1:132"),
+    (["I{onA:", "if(a)", "b", "", "}"], 63, "ok"),
+    (["I{onA:", "if(a)", "b", "", "}"], 64, "TooDeep 1:327"),
+    (["I{onA:", "if(a)b;else ", "b", "", "}"], 63, "ok"),
+    (
+        ["I{onA:", "if(a)b;else ", "b", "", "}"],
+        64,
+        "TooDeep 1:768",
+    ),
+    (["I{onA:", "while(a)", "b", "", "}"], 63, "ok"),
+    (["I{onA:", "while(a)", "b", "", "}"], 64, "TooDeep 1:519"),
+    (["I{onA:", "for(;;)", "b", "", "}"], 63, "ok"),
+    (["I{onA:", "for(;;)", "b", "", "}"], 64, "TooDeep 1:455"),
+];
+
+#[test]
+fn levels_that_each_form_opens(rt: HostRuntime) -> Result<(), Fail> {
+    nested_answered(&rt, rt.alloc(), LEVELS)
+}
+
+const NODES: &[([&str; 5], usize, &str)] = &[
+    // Each form that is a node.
+    (["I{x:a", "+a", "", "", "}"], 99, "ok"),
+    (["I{x:a", "+a", "", "", "}"], 100, "TooDeep 1:205"),
+    (["I{x:a", "&&a", "", "", "}"], 99, "ok"),
+    (["I{x:a", "&&a", "", "", "}"], 100, "TooDeep 1:305"),
+    (["I{x:a", "||a", "", "", "}"], 99, "ok"),
+    (["I{x:a", "||a", "", "", "}"], 100, "TooDeep 1:305"),
+    (["I{x:a", "<a", "", "", "}"], 99, "ok"),
+    (["I{x:a", "<a", "", "", "}"], 100, "TooDeep 1:205"),
+    (["I{x:a", "==a", "", "", "}"], 99, "ok"),
+    (["I{x:a", "==a", "", "", "}"], 100, "TooDeep 1:305"),
+    (["I{x:a", "*a", "", "", "}"], 99, "ok"),
+    (["I{x:a", "*a", "", "", "}"], 100, "TooDeep 1:205"),
+    (["I{x:a", ".b", "", "", "}"], 199, "ok"),
+    (["I{x:a", ".b", "", "", "}"], 200, "TooDeep 1:404"),
+    (["I{x:a", "()", "", "", "}"], 199, "ok"),
+    (["I{x:a", "()", "", "", "}"], 200, "TooDeep 1:404"),
+    (["I{x:f(a", ",a", "", "", ")}"], 197, "ok"),
+    (["I{x:f(a", ",a", "", "", ")}"], 198, "TooDeep 1:403"),
+    (["I{onA:a", ".b", "", "", "=1}"], 199, "ok"),
+    (["I{onA:a", ".b", "", "", "=1}"], 200, "TooDeep 1:406"),
+    // An operator and a conditional are nodes at their own tokens; a parenthesis and a `:` are none.
+    (["I{x:a", "+a", "+-a", "", "}"], 99, "TooDeep 1:205"),
+    (["I{x:a", "+a", "+a", "", "}"], 99, "TooDeep 1:205"),
+    (["I{x:a", "+a", "+1", "", "}"], 99, "TooDeep 1:205"),
+    (["I{x:a", "+a", "+'a'", "", "}"], 99, "TooDeep 1:205"),
+    (["I{x:a", "+a", "+null", "", "}"], 99, "TooDeep 1:205"),
+    (["I{x:a.b", "+a", "+a", "", "}"], 99, "TooDeep 1:206"),
+    (["I{x:a.b", "+a", "?b:c", "", "}"], 99, "TooDeep 1:206"),
+    (["I{x:a", "+a", "?b:c", "", "}"], 99, "TooDeep 1:205"),
+    (["I{x:a", "+a", "?b:c", "", "}"], 98, "ok"),
+    (["I{x:a.b", "+a", "?b:c", "", "}"], 98, "TooDeep 1:207"),
+    (["I{x:(((a)))", "+a", "", "", "}"], 99, "ok"),
+    (["I{x:a.b", "+a", "", "", "}"], 99, "ok"),
+    // A target, a condition, a part and a value are expressions of their own.
+    (["I{onA:a", ".b", "=c", ".d", "}"], 199, "ok"),
+    (["I{onA:if(a", ".b", ")c", ".d", "}"], 199, "ok"),
+    (["I{onA:while(a", ".b", ")c", ".d", "}"], 199, "ok"),
+    (["I{onA:for(;a", ".b", ";)c", ".d", "}"], 199, "ok"),
+    (["I{onA:for(a", ".b", "=1;;)c", ".d", "}"], 199, "ok"),
+    (["I{onA:for(;;a", ".b", "++)c", ".d", "}"], 199, "ok"),
+    (["I{x:a", ".b", ";y:c", ".d", "}"], 199, "ok"),
+    // A token that cannot stand there is no node.
+    (["I{x:a", "+a", "+[", "", "}"], 99, "Unsupported 1:205"),
+    (["I{x:a", "+a", "+{", "", "}"], 99, "Unsupported 1:205"),
+    (["I{x:a", "+a", "+this", "", "}"], 99, "Unsupported 1:205"),
+    (
+        ["I{x:a", "+a", "+function", "", "}"],
+        99,
+        "Unsupported 1:205",
+    ),
+    (["I{x:a", "+a", "+0.5", "", "}"], 99, "Unsupported 1:205"),
+    (["I{x:a", "+a", "+)", "", "}"], 99, "Syntax 1:205"),
+    (["I{x:a", ".b", "[0]", "", "}"], 199, "Unsupported 1:404"),
+];
+
+#[test]
+fn nodes_that_each_form_is(rt: HostRuntime) -> Result<(), Fail> {
+    nested_answered(&rt, rt.alloc(), NODES)
+}
+
+const SIZES: &[([&str; 5], usize, &str)] = &[
+    (["Item { id: ", "a", "", "", " }"], 65536, "ok"),
+    (["Item { id: ", "a", "", "", " }"], 65537, "BadToken 1:12"),
+    (["Item { x: '", "a", "'", "", " }"], 65536, "ok"),
+    (["Item { x: '", "a", "'", "", " }"], 65537, "BadToken 1:11"),
+    (["Item { x: '", "\\n", "'", "", " }"], 65536, "ok"),
+    (
+        ["Item { x: '", "\\n", "'", "", " }"],
+        65537,
+        "BadToken 1:11",
+    ),
+    (["Item { x: '", "\\u00e9", "'", "", " }"], 32768, "ok"),
+    (
+        ["Item { x: '", "\\u00e9", "'", "", " }"],
+        32769,
+        "BadToken 1:11",
+    ),
+];
+
+#[test]
+fn sizes_of_names_and_texts(rt: HostRuntime) -> Result<(), Fail> {
+    nested_answered(&rt, rt.alloc(), SIZES)
+}
+
+// Fronts
+
+const RED: &str = r##"Rectangle { width: 2; height: 1; color: "#ff0000" }"##;
+
+#[test]
+fn every_front_of_a_document_is_refused_at_its_end(rt: HostRuntime) -> Result<(), Fail> {
+    let whole = answer(rt.alloc(), RED.as_bytes())?;
+    assert_eq!(rt; whole.as_str(), "ok");
+    for len in 0..RED.len() {
+        // Within the text between the quotes the place is that of the opening quote.
+        let wanted = if len > 40 && len < 49 {
+            DocFault::BadToken {
+                at: Span { line: 1, col: 41 },
+            }
+        } else {
+            let col = len as u32 + 1;
+            DocFault::Syntax {
+                at: Span { line: 1, col },
+            }
+        };
+        let wanted = told_fault(rt.alloc(), wanted)?;
+        let found = answer(rt.alloc(), &RED.as_bytes()[..len])?;
+        assert_eq!(rt; found.as_str(), wanted.as_str(), "{len}");
+    }
     Ok(())
 }

@@ -1,5 +1,5 @@
 -- How the parts of a run make its end.
-use Rattle.std.proofs.Common.{◌≡◌, ℕ, ◌≤◌, ◌<◌, ◌⊎◌, List, length, Option, None, Some, refl, sym, ap, ◌∙◌, subst, inl, inr, arith}
+use Rattle.std.proofs.Common.{◌≡◌, ℕ, ◌≤◌, List, Option, None, Some, sym, ap, ◌∙◌, subst, inl, inr, arith}
 use Rattle.std.specs.Prelude.{IfSome, IfErr, OnOk, Result, Ok, Err}
 use Rattle.std.specs.FinMap.{get}
 use Rattle.std.specs.Io.KnownBytes.{Appends}
@@ -7,18 +7,18 @@ use Rattle.outside.specs.Bytes.{AppendsPart}
 use Rattle.outside.specs.Store.{Store}
 use Rattle.qml_ast.specs.declared.fault.LoadFault.{LoadFault}
 use Rattle.qml_ast.specs.declared.fault.LoadFault.TheVariants as load
-use Rattle.qml_parse.specs.Meaning.{flattened}
-use Rattle.qml_parse.specs.Tree.{Members}
+use Rattle.rect_form.specs.Tree.{Members}
 use Rattle.rect_raster.specs.Picture.{Picture, ppm}
 use Rattle.rect_raster.specs.Drawing.{drawing}
 use Rattle.stage_run.specs.declared.status.Status.{Status}
 use Rattle.stage_run.specs.declared.status.Status.TheVariants as status
-use Rattle.stage_run.specs.Causes.{HasScript, HasBadScript, HasTree, IsFaultOf, HasFault, Accepts, Run, IsPart, Ends, HasCause, IsSound, IsDoneOrNoMemory}
+use Rattle.stage_run.specs.Causes.{HasScript, HasBadScript, HasTree, IsFaultOf, IsOfText, HasFault, RefusesDocument, Accepts, Run, IsIdle, IsPart, Ends, HasCause, IsSound, IsDoneOrNoMemory}
 use Rattle.stage_run.specs.Flaws.{IsPrefix, StopsWriting}
 use Rattle.stage_run.specs.Moves.{commands}
 use Rattle.stage_run.specs.Painting.{painted}
 use Rattle.stage_run.specs.Words.{main_of, script_of}
 use Rattle.stage_run.specs.Written.{image_of, copies, written}
+use Rattle.stage_run.proofs.OneAnswer.{no_fault_of}
 use Rattle.stage_run.proofs.ScriptLemmas.{script_is_good}
 use Rattle.stage_run.proofs.WrittenFrames.{written-commands}
 
@@ -92,6 +92,26 @@ pub ended-stopped : {A : Type 0} (r : Result A Status) (run : Run) (image : List
 ended-stopped (Ok a) run image count tree few took e stopped = tt
 ended-stopped (Err s) run image count tree few took e stopped = stopped_with run s image count tree few took e stopped
 
+-- a lawful script, and beside it what the document's file has
+beside : (held : Option Store) (words : List (List ℕ)) (count : ℕ) (fault : LoadFault) → IfSome held (λ files. HasScript (get files (script_of words)) count) → IfSome held (λ files. HasFault (get files (main_of words)) fault)
+    → IfSome held (λ files. ((n : ℕ) × HasScript (get files (script_of words)) n) × HasFault (get files (main_of words)) fault)
+beside None words count fault script document = tt
+beside (Some files) words count fault script document = ((count, script), document)
+
+-- the document was refused, behind a lawful script
+pub ended-refused : (run : Run) (s : Status) (held : Option Store) (script main : List ℕ) (before count : ℕ) → IsIdle run → held ≡ run.held → script ≡ script_of run.words → main ≡ main_of run.words → run.reads_before ≤ before
+    → IfSome run.held (λ files. HasScript (get files script) count) → RefusesDocument held main before run.reads_after s → Ends run s
+ended-refused run status.Done held script main before count idle e f g later has refused = absurd refused
+ended-refused run status.Usage held script main before count idle e f g later has refused = refused
+ended-refused run (status.BadScript line) held script main before count idle e f g later has refused = absurd refused
+ended-refused run (status.BadDocument fault) held script main before count idle e f g later has refused =
+    let scripted = subst (λ name. IfSome run.held (λ files. HasScript (get files name) count)) f has in
+    let flawed = subst (λ h. IfSome h (λ files. HasFault (get files (main_of run.words)) fault)) e (subst (λ name. IfSome held (λ files. HasFault (get files name) fault)) g refused.1) in
+    (idle, subst (λ name. IsFaultOf name fault) g refused.0, beside run.held run.words count fault scripted flawed)
+ended-refused run status.ReadFault held script main before count idle e f g later has refused = (idle, omega (arith, refused, later))
+ended-refused run status.WriteFault held script main before count idle e f g later has refused = absurd refused
+ended-refused run status.NoMemory held script main before count idle e f g later has refused = inl idle
+
 -- a script is no bad one
 not_bad : (file : Option (List ℕ)) (count line : ℕ) → HasScript file count → HasBadScript file line → ⊥
 not_bad None count line has bad = has
@@ -107,7 +127,7 @@ no_fault main (Some bytes) tree load.TooMany has named bad = named
 no_fault main (Some bytes) tree (load.Cycle name) has named bad = named
 no_fault main (Some bytes) tree load.Read has named bad = named
 no_fault main (Some bytes) tree load.NoMemory has named bad = named
-no_fault main (Some bytes) tree (load.Doc name fault) has named bad = bad.1 (flattened None 0 tree) (tree, has.1, has.2, refl)
+no_fault main (Some bytes) tree (load.Doc name fault) has named bad = subst IsOfText (no_fault_of bytes tree fault has.1 bad.1) named.1
 
 -- with sound files nothing is refused
 pub complete-cause : (run : Run) (s : Status) → HasCause run s → (files : Store) → IsSound run files → IsDoneOrNoMemory s

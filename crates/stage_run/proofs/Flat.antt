@@ -1,20 +1,19 @@
 -- The shapes of a flat document, one object after another, are those of its tree.
-use Rattle.std.proofs.Common.{◌≡◌, ℕ, zero, suc, ◌+◌, ◌-◌, ◌<◌, ◌≤◌, List, [], ◌∷◌, ◌++◌, length, drop, Option, None, Some, refl, sym, ap, ◌∙◌, subst, arith, append-nil, length-append, add-one, below_more}
-use Rattle.std.specs.Prelude.{slice_index_or, slice_get, pos, ◌*◌, ◌^◌}
+use Rattle.std.proofs.Common.{◌≡◌, ℕ, zero, suc, ◌+◌, ◌<◌, ◌≤◌, List, [], ◌∷◌, ◌++◌, length, drop, None, Some, refl, sym, ap, ◌∙◌, subst, arith, append-nil, length-append, add-one, below_more}
+use Rattle.std.specs.Prelude.{slice_index_or, ◌*◌, ◌^◌}
 use Rattle.std.proofs.lemmas.Option.{slice_get-get_or}
 use Rattle.std.proofs.Math.Seq.{drop-cons}
 use Rattle.std.proofs.lemmas.List.{append_assoc}
-use Rattle.std.proofs.lemmas.Grind.{common_steps}
-use Rattle.qml_parse.specs.declared.document.RectDecl.{RectDecl}
-use Rattle.qml_parse.specs.Tree.{Members, none, number, color, child}
-use Rattle.qml_parse.specs.Lawful.{IsLawfulAt, AreLawful}
-use Rattle.qml_parse.specs.Meaning.{own, inner, size, children, flattened}
+use Rattle.rect_form.specs.declared.rect.RectDecl.{RectDecl}
+use Rattle.rect_form.specs.Tree.{Members, none, number, color, child}
+use Rattle.rect_form.specs.Lawful.{IsLawfulAt, AreLawful}
+use Rattle.rect_form.specs.Meaning.{own, inner, size, children, flattened}
 use Rattle.rect_raster.specs.declared.clip_rect.ClipRect.{ClipRect}
 use Rattle.rect_raster.specs.Drawing.{Shape, shape_of, drawing}
 use Rattle.rect_raster.specs.Picture.{Picture}
 use Rattle.stage_run.specs.declared.painter.Corner.{Corner}
 use Rattle.stage_run.specs.Painting.{shape_within, painted, painted_children}
-use Rattle.stage_run.specs.Places.{AreNear, origin, base_of, place_of, area_of}
+use Rattle.stage_run.specs.Places.{AreNear, origin, place_of, area_of}
 
 -- the corners after these objects
 abbrev pub corners_after : List Corner → List RectDecl → List Corner
@@ -201,7 +200,3 @@ drop-end [] zero past = refl
 drop-end [] (suc i) past = refl
 drop-end (object ∷ objects) zero past = absurd (omega arith)
 drop-end (object ∷ objects) (suc i) past = drop-end objects i (omega arith)
-
--- trees of one list of objects are painted alike
-pub painted-flattened : (first second : Members) → flattened None 0 first ≡ flattened None 0 second → painted 0 0 first ≡ painted 0 0 second
-painted-flattened first second e = sym (shapes-flattened first) ∙ ap (shapes_from []) e ∙ shapes-flattened second

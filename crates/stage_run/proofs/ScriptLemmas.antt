@@ -1,12 +1,12 @@
 -- Lines from the front, and the first bad one.
-use Rattle.std.proofs.Common.{◌≡◌, ◌≢◌, ℕ, zero, suc, ◌+◌, ◌-◌, ◌==◌, ◌<◌, ◌≤◌, ◌⊎◌, inl, inr, Bool, true, false, cond, not, List, [], ◌∷◌, ◌++◌, length, take, drop, refl, sym, ap, ◌∙◌, subst, arith, add-one, append-nil, length-append}
+use Rattle.std.proofs.Common.{◌≡◌, ◌≢◌, ℕ, zero, suc, ◌+◌, ◌-◌, ◌<◌, ◌≤◌, ◌⊎◌, inl, inr, Bool, true, false, not, List, [], ◌∷◌, ◌++◌, length, take, drop, refl, sym, ap, ◌∙◌, subst, arith, add-one}
 use Rattle.std.specs.Prelude.{replicate, slice_get, Some, None, min, unwrap_or}
-use Rattle.std.specs.List.{position_or_len, prefix_len, position}
+use Rattle.std.specs.List.{position_or_len, position}
 use Rattle.std.proofs.Math.Nat.{min_comm}
 use Rattle.std.proofs.lemmas.List.{append_assoc, drop_min, length-replicate, replicate_more}
 use Rattle.std.proofs.lemmas.List.Sums.{prefix_len-le-length}
 use Rattle.std.proofs.lemmas.Grind.{common_steps}
-use Rattle.stage_run.specs.Script.{is_line_end, onto_first, lines_of, frame_word, IsScript, IsBadLine, IsFirstBadLine}
+use Rattle.stage_run.specs.Script.{is_line_end, lines_of, frame_word, IsScript, IsBadLine, IsFirstBadLine}
 
 -- a text whose first line is told, with one more byte in front
 lines-longer : (byte : ℕ) (bytes line : List ℕ) (lines : List (List ℕ)) → is_line_end byte ≡ false → lines_of bytes ≡ line ∷ lines → lines_of (byte ∷ bytes) ≡ (byte ∷ line) ∷ lines

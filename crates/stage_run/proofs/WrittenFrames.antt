@@ -1,16 +1,15 @@
 -- Frames written one after another.
-use Rattle.std.proofs.Common.{◌≡◌, ℕ, zero, suc, ◌+◌, ◌<◌, ◌≤◌, List, [], ◌∷◌, ◌++◌, Option, refl, sym, ap, ◌∙◌, subst, arith, add-one, append-nil}
-use Rattle.std.specs.Prelude.{flat_map}
+use Rattle.std.proofs.Common.{◌≡◌, ℕ, zero, suc, ◌+◌, ◌<◌, List, [], ◌∷◌, ◌++◌, Option, refl, sym, ap, ◌∙◌, arith, add-one, append-nil}
 use Rattle.std.specs.Io.KnownBytes.{Appends}
 use Rattle.std.proofs.lemmas.List.{append_assoc}
 use Rattle.outside.specs.Bytes.{AppendsPart}
 use Rattle.outside.proofs.Appending.{Appends-then_part}
-use Rattle.qml_parse.specs.Tree.{Members}
+use Rattle.rect_form.specs.Tree.{Members}
 use Rattle.stage_run.specs.declared.journal.Move.{Move}
 use Rattle.stage_run.specs.declared.journal.Move.TheVariants.{Command}
 use Rattle.stage_run.specs.Flaws.{IsPrefix}
 use Rattle.stage_run.specs.Moves.{commands}
-use Rattle.stage_run.specs.Written.{image_of, bytes_of, written, copies}
+use Rattle.stage_run.specs.Written.{image_of, written, copies}
 
 commands-next : (journal after : List Move) (done : ℕ) → journal ≡ commands done → after ≡ journal ++ Command (done + 1) ∷ [] → after ≡ commands (done + 1)
 commands-next journal after done known pushed = rw add-one (pushed ∙ ap (λ moves. moves ++ Command (done + 1) ∷ []) known ∙ ap (λ n. commands done ++ Command n ∷ []) (add-one done))

@@ -1,18 +1,19 @@
 -- Why a run ended as it did.
-use Rattle.std.specs.Prelude.{◌≡◌, ℕ, ◌+◌, ◌<◌, ◌≤◌, ◌⊎◌, List, [], length, Option, None, Some, IfSome}
+use Rattle.std.specs.Prelude.{◌≡◌, ℕ, ◌<◌, ◌≤◌, ◌⊎◌, List, [], length, Option, None, Some, IfSome}
 use Rattle.std.specs.FinMap.{get}
 use Rattle.std.specs.Io.KnownBytes.{Keeps, Appends}
 use Rattle.outside.specs.Bytes.{AppendsPart}
 use Rattle.outside.specs.Count.{Rose}
 use Rattle.outside.specs.Store.{Store}
-use Rattle.qml_parse.specs.declared.document.RectDecl.{RectDecl}
+use Rattle.qml_ast.specs.declared.document.Document.{Document}
 use Rattle.qml_ast.specs.declared.fault.DocFault.{DocFault}
 use Rattle.qml_ast.specs.declared.fault.DocFault.TheVariants as doc
 use Rattle.qml_ast.specs.declared.fault.LoadFault.{LoadFault}
 use Rattle.qml_ast.specs.declared.fault.LoadFault.TheVariants as load
-use Rattle.qml_parse.specs.Grammar.{IsSpelled}
-use Rattle.qml_parse.specs.Meaning.{IsLawfulTree, IsDocument}
-use Rattle.qml_parse.specs.Tree.{Members}
+use Rattle.qml_ast.specs.declared.span.Span.{Span}
+use Rattle.qml_tokens.specs.Spelled.{Spells, HasFault as HasTextFault}
+use Rattle.rect_form.specs.Form.{flaw_of, tree_of}
+use Rattle.rect_form.specs.Tree.{Members}
 use Rattle.stage_run.specs.declared.journal.Move.{Move}
 use Rattle.stage_run.specs.declared.status.Status.{Status}
 use Rattle.stage_run.specs.declared.status.Status.TheVariants as status
@@ -39,26 +40,51 @@ HasBadScript None line = line ≡ 0
 HasBadScript (Some bytes) line =
     ((script_limit < length bytes) × (line ≡ 0)) ⊎ ((length bytes ≤ script_limit) × IsFirstBadLine bytes line)
 
--- the file is a document of this tree
+-- the text spells a document that is drawn as this tree
+pub record IsTextOf (bytes : List ℕ) (tree : Members) : Type 0 where
+  pub document : Document
+  pub spelled : Spells bytes document
+  pub sound : flaw_of document.root ≡ None
+  pub is : tree ≡ tree_of document.root
+
+-- the text spells a document that is not run yet, which shows first at this place
+pub record IsNotRun (bytes : List ℕ) (at : Span) : Type 0 where
+  pub document : Document
+  pub spelled : Spells bytes document
+  pub flaw : flaw_of document.root ≡ Some at
+
+-- a fault of the text, or what is not run of the document that it spells
+abbrev pub IsFaulty : List ℕ → DocFault → Type 0
+IsFaulty bytes fault = HasTextFault bytes fault ⊎ ((at : Span) × (fault ≡ doc.Unsupported at) × IsNotRun bytes at)
+
+-- the file is a document that is drawn as this tree
 abbrev pub HasTree : Option (List ℕ) → Members → Type 0
 HasTree None tree = ⊥
-HasTree (Some bytes) tree = (length bytes ≤ document_limit) × IsSpelled bytes tree × IsLawfulTree tree
+HasTree (Some bytes) tree = (length bytes ≤ document_limit) × IsTextOf bytes tree
 
--- the file is a text of another form
-abbrev pub HasNoTree : Option (List ℕ) → Type 0
-HasNoTree None = ⊥
-HasNoTree (Some bytes) = (length bytes ≤ document_limit) × ((d : List RectDecl) → IsDocument bytes d → ⊥)
+-- the file is a text of this fault
+abbrev pub HasFaultyText : Option (List ℕ) → DocFault → Type 0
+HasFaultyText None fault = ⊥
+HasFaultyText (Some bytes) fault = (length bytes ≤ document_limit) × IsFaulty bytes fault
 
 abbrev pub IsTooLong : Option (List ℕ) → Type 0
 IsTooLong None = ⊥
 IsTooLong (Some bytes) = document_limit < length bytes
 
+-- a fault that the text of a document can have
+abbrev pub IsOfText : DocFault → Type 0
+IsOfText (doc.NotUtf8 at) = Unit {0}
+IsOfText (doc.BadToken at) = Unit {0}
+IsOfText (doc.Syntax at) = Unit {0}
+IsOfText (doc.TooDeep at) = Unit {0}
+IsOfText (doc.Unsupported at) = Unit {0}
+IsOfText _ = ⊥
+
 -- a fault of the document of this name, as it can be without a look into the files
 abbrev pub IsFaultOf : List ℕ → LoadFault → Type 0
 IsFaultOf main (load.Missing name) = name ≡ main
 IsFaultOf main (load.TooLong name) = name ≡ main
-IsFaultOf main (load.Doc name (doc.Unsupported at)) = (name ≡ main) × (at ≡ record { line = 1; col = 1 })
-IsFaultOf main (load.Doc name _) = ⊥
+IsFaultOf main (load.Doc name fault) = (name ≡ main) × IsOfText fault
 IsFaultOf main load.TooMany = ⊥
 IsFaultOf main (load.Cycle name) = ⊥
 IsFaultOf main load.Read = ⊥
@@ -68,7 +94,7 @@ IsFaultOf main load.NoMemory = ⊥
 abbrev pub HasFault : Option (List ℕ) → LoadFault → Type 0
 HasFault file (load.Missing name) = file ≡ None
 HasFault file (load.TooLong name) = IsTooLong file
-HasFault file (load.Doc name fault) = HasNoTree file
+HasFault file (load.Doc name fault) = HasFaultyText file fault
 HasFault file load.TooMany = ⊥
 HasFault file (load.Cycle name) = ⊥
 HasFault file load.Read = ⊥

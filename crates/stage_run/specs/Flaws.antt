@@ -2,17 +2,16 @@
 use Rattle.std.specs.Prelude.{◌≡◌, ℕ, ◌≤◌, List, Option}
 use Rattle.outside.specs.Bytes.{AppendsPart}
 use Rattle.outside.specs.Count.{Rose}
-use Rattle.qml_parse.specs.declared.document.RectDecl.{RectDecl}
 use Rattle.qml_ast.specs.declared.fault.DocFault.{DocFault}
 use Rattle.qml_ast.specs.declared.fault.DocFault.TheVariants as doc
 use Rattle.qml_ast.specs.declared.fault.LoadFault.{LoadFault}
 use Rattle.qml_ast.specs.declared.fault.LoadFault.TheVariants as load
-use Rattle.qml_parse.specs.Meaning.{IsDocument}
 use Rattle.stage_run.specs.declared.journal.Move.{Move}
 use Rattle.stage_run.specs.declared.sources.Flaw.{Flaw}
 use Rattle.stage_run.specs.declared.sources.Flaw.TheVariants as flaw
 use Rattle.stage_run.specs.declared.status.Status.{Status}
 use Rattle.stage_run.specs.declared.status.Status.TheVariants as status
+use Rattle.stage_run.specs.Causes.{IsFaulty, IsOfText}
 use Rattle.stage_run.specs.Moves.{commands}
 use Rattle.stage_run.specs.Written.{copies}
 use Rattle.stage_run.specs.Script.{IsFirstBadLine}
@@ -48,13 +47,13 @@ abbrev pub IsRefusalFor : List ℕ → DocFault → Status → Type 0
 IsRefusalFor name doc.NoMemory answer = answer ≡ status.NoMemory
 IsRefusalFor name fault answer = IsFlawOf name (flaw.Doc fault) answer
 
--- the bytes are no document, which the status says at line 1, column 1, unless memory ran out
+-- the status tells the fault of the bytes, unless memory ran out
 abbrev pub RefusesBytes : List ℕ → List ℕ → Status → Type 0
 RefusesBytes name bytes status.Done = ⊥
 RefusesBytes name bytes status.Usage = ⊥
 RefusesBytes name bytes (status.BadScript line) = ⊥
 RefusesBytes name bytes (status.BadDocument fault) =
-    (fault ≡ load.Doc name (doc.Unsupported (record { line = 1; col = 1 }))) × ((d : List RectDecl) → IsDocument bytes d → ⊥)
+    (found : DocFault) × (fault ≡ load.Doc name found) × IsOfText found × IsFaulty bytes found
 RefusesBytes name bytes status.ReadFault = ⊥
 RefusesBytes name bytes status.WriteFault = ⊥
 RefusesBytes name bytes status.NoMemory = Unit {0}

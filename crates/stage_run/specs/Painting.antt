@@ -1,7 +1,7 @@
 -- What a tree of Rectangles looks like.
 use Rattle.std.specs.Prelude.{ℕ, ◌+◌, List, [], ◌∷◌, ◌++◌, pos, None}
-use Rattle.qml_parse.specs.Tree.{Members, none, number, color, child}
-use Rattle.qml_parse.specs.Meaning.{own}
+use Rattle.rect_form.specs.Tree.{Members, none, number, color, child}
+use Rattle.rect_form.specs.Meaning.{own}
 use Rattle.rect_raster.specs.Drawing.{Shape}
 
 -- a Rectangle's own shape, in the window, where its parent stands at (left, top)

@@ -1,6 +1,6 @@
 -- Where the objects of a flat document stand.
 use Rattle.std.specs.Prelude.{ℕ, ◌+◌, ◌*◌, ◌^◌, ◌<◌, ◌≤◌, List, length, slice_index_or, pos, Option, None, Some}
-use Rattle.qml_parse.specs.declared.document.RectDecl.{RectDecl}
+use Rattle.rect_form.specs.declared.rect.RectDecl.{RectDecl}
 use Rattle.rect_raster.specs.declared.clip_rect.ClipRect.{ClipRect}
 use Rattle.stage_run.specs.declared.painter.Corner.{Corner}
 

@@ -1,5 +1,5 @@
 -- A script: lines that each say `frame`.
-use Rattle.std.specs.Prelude.{◌≡◌, ◌≢◌, ℕ, ◌+◌, ◌-◌, ◌==◌, ◌≤◌, if◌then◌else◌, Bool, List, [], ◌∷◌, length, take, replicate, slice_get, Option, None, Some, codes}
+use Rattle.std.specs.Prelude.{◌≡◌, ℕ, ◌-◌, ◌==◌, ◌≤◌, if◌then◌else◌, Bool, List, [], ◌∷◌, take, replicate, slice_get, Option, None, Some, codes}
 
 -- LF
 abbrev pub is_line_end : ℕ → Bool

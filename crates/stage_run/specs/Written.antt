@@ -1,6 +1,6 @@
 -- What a run writes.
 use Rattle.std.specs.Prelude.{ℕ, zero, suc, List, [], ◌++◌, flat_map}
-use Rattle.qml_parse.specs.Tree.{Members}
+use Rattle.rect_form.specs.Tree.{Members}
 use Rattle.rect_raster.specs.Drawing.{drawing}
 use Rattle.rect_raster.specs.Picture.{ppm}
 use Rattle.stage_run.specs.declared.journal.Move.{Move}

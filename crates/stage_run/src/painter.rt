@@ -1,12 +1,12 @@
 ghost use Rattle.std.specs.Prelude.{◌≡◌, ℕ, ◌+◌, ◌*◌, ◌^◌, ◌<◌, ◌≤◌, List, length, None, IfOk};
-ghost use Rattle.qml_parse.specs.Tree.{Members};
-ghost use Rattle.qml_parse.specs.Meaning.{flattened};
-ghost use Rattle.qml_parse.specs.Lawful.{IsLawfulAt};
+ghost use Rattle.rect_form.specs.Tree.{Members};
+ghost use Rattle.rect_form.specs.Meaning.{flattened};
+ghost use Rattle.rect_form.specs.Lawful.{IsLawfulAt};
 ghost use Rattle.rect_raster.specs.Drawing.{drawing};
 ghost use Rattle.stage_run.specs.Painting.{painted};
 ghost use Rattle.stage_run.specs.Places.{place_of, area_of, AreNear};
 
-use qml_parse::{Document, RectDecl};
+use rect_form::{RectDecl, Rects};
 use rect_raster::{Canvas, ClipRect, fill};
 use std::alloc::{AllocError, Global};
 
@@ -23,12 +23,12 @@ pub struct Corner {
     pub top: u64,
 }
 
-/// The window with the document's rectangles in it, parents under their children.
-pub fn draw(alloc: Global, document: &Document) -> Result<Canvas, AllocError>
-    ensures { IfOk result (λ canvas. (tree : Members) → document.now ≡ flattened None 0 tree
+/// The window with a document's rectangles in it, parents under their children.
+pub fn draw(alloc: Global, rects: &Rects) -> Result<Canvas, AllocError>
+    ensures { IfOk result (λ canvas. (tree : Members) → rects.now ≡ flattened None 0 tree
         → canvas ≡ drawing WIDTH HEIGHT (painted 0 0 tree)) }
 {
-    let objects = document.objects();
+    let objects = rects.objects();
     let mut canvas = Canvas::new(alloc, WIDTH, HEIGHT)?;
     let mut corners: Vec<Corner> = Vec::with_capacity(alloc, objects.len())?;
     for object in objects {

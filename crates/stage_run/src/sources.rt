@@ -1,8 +1,8 @@
 ghost use Rattle.std.specs.Prelude.{◌≡◌, ◌≤◌, length, IfOk, IfErr, IfSome, None};
 ghost use Rattle.std.specs.FinMap.{get};
-ghost use Rattle.qml_parse.specs.Tree.{Members};
-ghost use Rattle.qml_parse.specs.Meaning.{flattened, IsDocument};
-ghost use Rattle.stage_run.specs.Causes.{HasScript, HasTree, RefusesScript, RefusesDocument};
+ghost use Rattle.rect_form.specs.Tree.{Members};
+ghost use Rattle.rect_form.specs.Meaning.{flattened};
+ghost use Rattle.stage_run.specs.Causes.{HasScript, HasTree, IsTextOf, IsFaulty, RefusesScript, RefusesDocument};
 ghost use Rattle.stage_run.specs.Flaws.{IsBadScriptAt, RefusesBytes, IsFlawOf, IsRefusalFor};
 ghost use Rattle.stage_run.specs.Script.{IsScript};
 
@@ -10,7 +10,8 @@ use crate::script::read_script;
 use crate::status::Status;
 use outside::{Fetch, Files};
 use qml_ast::{DocFault, LoadFault, Name};
-use qml_parse::{Document, parse};
+use qml_parse::parse;
+use rect_form::{Rects, rects};
 use std::alloc::Global;
 
 /// The most bytes that a script may have.
@@ -48,17 +49,13 @@ fn commands_of(bytes: &[u8]) -> Result<u32, Status>
     }
 }
 
-/// The document of this name, or why there is none: `BadDocument` where the file is missing, too long
-/// or of another form, `ReadFault` where it could not be read, or `NoMemory`.
-pub fn fetch_document<F: Files>(
-    alloc: Global,
-    files: &mut F,
-    name: &str,
-) -> Result<Document, Status>
+/// The rectangles of the document of this name, or why there are none: `BadDocument` where the file is
+/// missing, too long, no document or not run yet, `ReadFault` where it could not be read, or `NoMemory`.
+pub fn fetch_document<F: Files>(alloc: Global, files: &mut F, name: &str) -> Result<Rects, Status>
     requires { length name.now ≤ 65536 }
     ensures held { F.held files.new ≡ F.held files.old }
     ensures later { F.faults files.old ≤ F.faults files.new }
-    ensures read { IfOk result (λ document. (tree : Members) × (document ≡ flattened None 0 tree)
+    ensures read { IfOk result (λ rects. (tree : Members) × (rects ≡ flattened None 0 tree)
         × IfSome (F.held files.old) (λ told. HasTree (get told name.now) tree)) }
     ensures refused { IfErr result (RefusesDocument (F.held files.old) name.now (F.faults files.old) (F.faults files.new)) }
 {
@@ -72,19 +69,30 @@ pub fn fetch_document<F: Files>(
     }
 }
 
-fn document_of(alloc: Global, name: &str, bytes: &[u8]) -> Result<Document, Status>
+fn document_of(alloc: Global, name: &str, bytes: &[u8]) -> Result<Rects, Status>
     requires name { length name.now ≤ 65536 }
     requires few { length bytes.now ≤ DOCUMENT_LIMIT }
-    ensures read { IfOk result (IsDocument bytes.now) }
+    ensures read { IfOk result (λ rects. (tree : Members) × (rects ≡ flattened None 0 tree) × IsTextOf bytes.now tree) }
     ensures refused { IfErr result (RefusesBytes name.now bytes.now) }
 {
-    match parse(alloc, bytes) {
-        Ok(document) => Ok(document),
+    match rects_of(alloc, bytes) {
+        Ok(rects) => Ok(rects),
         Err(fault) => Err(refusal_of(alloc, name, fault)),
     }
 }
 
-/// What the reader's fault means for the run.
+/// The rectangles of a text, or the first fault of the text, or the first place in its document that is
+/// not run yet, as `Unsupported`.
+fn rects_of(alloc: Global, bytes: &[u8]) -> Result<Rects, DocFault>
+    requires { length bytes.now ≤ DOCUMENT_LIMIT }
+    ensures read { IfOk result (λ rects. (tree : Members) × (rects ≡ flattened None 0 tree) × IsTextOf bytes.now tree) }
+    ensures refused { IfErr result (IsFaulty bytes.now) }
+{
+    let document = parse(alloc, bytes)?;
+    rects(alloc, &document)
+}
+
+/// What a document's fault means for the run.
 fn refusal_of(alloc: Global, name: &str, fault: DocFault) -> Status
     requires { length name.now ≤ 65536 }
     ensures { IsRefusalFor name.now fault result }

@@ -102,7 +102,7 @@ fn perform<F: Files, S: Sink>(
         (S.contents frames.old) (S.contents frames.new) journal.new)) }
 {
     let count = fetch_script(alloc, files, words.at(1))?;
-    let document = fetch_document(alloc, files, words.at(0))?;
-    let canvas = draw(alloc, &document)?;
+    let rects = fetch_document(alloc, files, words.at(0))?;
+    let canvas = draw(alloc, &rects)?;
     write_frames(&canvas, count, journal, frames)
 }

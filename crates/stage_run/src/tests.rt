@@ -275,11 +275,56 @@ fn lines_of_a_script(rt: HostRuntime) -> Result<(), Fail> {
 }
 
 #[test]
+fn documents_that_are_not_drawn(rt: HostRuntime) -> Result<(), Fail> {
+    let table = [
+        ("Item { }", "1:1: unsupported"),
+        ("import QtQuick 2.15\n\nItem { }", "3:1: unsupported"),
+        ("import QtQuick 1.0\nRectangle { }", "1:8: unsupported"),
+        ("Rectangle { x: 0.5 }", "1:16: unsupported"),
+        ("Rectangle { x: 1; y: 2; x: 3 }", "1:25: unsupported"),
+        ("Rectangle { x: -1 }", "1:13: unsupported"),
+        ("Rectangle { id: a; x: b }", "1:17: unsupported"),
+        ("Rectangle { color: \"red\" }", "1:13: unsupported"),
+        (
+            "Rectangle { Rectangle { }\n Item { }\n z: 1 }",
+            "2:2: unsupported",
+        ),
+        ("Rectangle { x: 1 +\n}", "2:1: syntax"),
+        ("Rectangle {", "1:12: syntax"),
+        ("", "1:1: syntax"),
+        ("Rectangle { x: 01 }", "1:16: bad token"),
+        ("Rectangle { x: 1 /* }", "1:18: bad token"),
+    ];
+    for (document, place) in table {
+        let line = format!(in rt.alloc(); "qmlstage: Main.qml:{place}\n")?;
+        refused(&rt, rt.alloc(), document, "frame", line.as_str(), 4)?;
+    }
+    Ok(())
+}
+
+#[test]
+fn one_picture_in_many_spellings(rt: HostRuntime) -> Result<(), Fail> {
+    let table = [
+        "Rectangle{width:2;height:1;color:'#FF0000'}",
+        "import QtQuick 2.15; import QtQuick 2.0\nRectangle {\n  width: 0x2\n  height: (1)\n  color: \"#ff0000\"\n}",
+        "// two pixels\nRectangle { width: 2; height: 1; /* red */ color: \"\\u0023ff0000\"; x: 0 }\n",
+    ];
+    for document in table {
+        let given = Given {
+            words: &["Main.qml", "script.txt"],
+            files: &[("Main.qml", document), ("script.txt", "frame")],
+            failing: 0,
+            room: 921_615,
+        };
+        let outcome = outcome_of(rt.alloc(), &given)?;
+        assert!(rt; is_two_red_pixels(outcome.frames.contents()), "{document}");
+    }
+    Ok(())
+}
+
+#[test]
 fn rectangles_stand_in_at_most_64(rt: HostRuntime) -> Result<(), Fail> {
-    for (levels, line, exit) in [
-        (64, "", 0),
-        (65, "qmlstage: Main.qml:1:1: unsupported\n", 4),
-    ] {
+    for (levels, line, exit) in [(64, "", 0), (65, "qmlstage: Main.qml:1:715: too deep\n", 4)] {
         let mut text = repeated(rt.alloc(), "Rectangle {", levels)?;
         text.push_str(repeated(rt.alloc(), "}", levels)?.as_str())?;
         let given = Given {

@@ -1,6 +1,6 @@
-use Rattle.qml_lex.proofs.Spelling.{tokens_are_spelled}
+use Rattle.qml_lex.proofs.Scanning.{all_spelled}
 use Rattle.qml_lex.proofs.lexer.lex.Goals as goal
 
-pub returns-in-Ok-clause-spelled : goal.returns-in-Ok-clause-spelled
-returns-in-Ok-clause-spelled c =
-    tokens_are_spelled c.args.bytes.now c.byte_order_mark_len.result c.tokens_from.result c.in-Ok.ensures.cases.1 c.tokens_from.ensures
+pub returns-clause-spelled : goal.returns-clause-spelled
+returns-clause-spelled c =
+    all_spelled c.args.bytes.now c.loop-tokens.scanner _ _ c.loop-tokens.tokens.items _ c.in_ok-token.field-0 c.loop-tokens.invariant.text c.loop-tokens.invariant.stands c.loop-tokens.invariant.read c.in_ok-token.ensures.next c.in_default.is c.from_vec.ensures

@@ -1,8 +1,7 @@
-use Rattle.std.proofs.Common.{◌≡◌, ◌∙◌, ◌++◌, [], append-nil, arith, rules}
+use Rattle.std.proofs.Common.{◌∙◌, arith}
 use Rattle.std.proofs.lemmas.Result.{err_from_is_err_and}
 use Rattle.outside.proofs.Appending.{AppendsPart-whole}
 use Rattle.outside.proofs.Counting.{grown-Rose}
-use Rattle.stage_run.specs.Flaws.{IsPrefix}
 use Rattle.rect_raster.specs.Picture.{ppm}
 use Rattle.stage_run.specs.Written.{copies}
 use Rattle.stage_run.proofs.WrittenFrames.{prefix-next}

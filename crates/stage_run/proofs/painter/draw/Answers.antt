@@ -1,6 +1,5 @@
-use Rattle.std.proofs.Common.{◌≡◌, ◌+◌, ◌∙◌, sym, subst, ap, refl, ◌≤◌, arith, length, drop, List, []}
-use Rattle.qml_parse.specs.declared.document.RectDecl.{RectDecl}
-use Rattle.qml_parse.specs.Lawful.{AreLawful}
+use Rattle.std.proofs.Common.{◌∙◌, sym, subst, ap, refl, arith, length}
+use Rattle.rect_form.specs.Lawful.{AreLawful}
 use Rattle.stage_run.proofs.Flat.{IsDrawn, lawful-inside, drop-object, drawn-turn, drawn-all, drop-end}
 use Rattle.stage_run.proofs.painter.draw.Goals as goal
 

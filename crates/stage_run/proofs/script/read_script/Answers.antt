@@ -1,7 +1,6 @@
-use Rattle.std.proofs.Common.{◌≡◌, ◌+◌, ◌++◌, ◌∷◌, ap, ◌∙◌, sym, arith, append_assoc, rules}
+use Rattle.std.proofs.Common.{◌++◌, ap, ◌∙◌, arith, rules}
 use Rattle.std.specs.Prelude.{replicate}
-use Rattle.std.proofs.lemmas.List.{replicate_more}
-use Rattle.stage_run.specs.Script.{lines_of, frame_word}
+use Rattle.stage_run.specs.Script.{frame_word}
 use Rattle.stage_run.proofs.ScriptLemmas.{first_bad, one_more}
 use Rattle.stage_run.proofs.script.read_script.Goals as goal
 use Rattle.stage_run.proofs.script.read_script.Goals.{then-count-eq-MOST_COMMANDS-via-then-count-eq-MOST_COMMANDS, then-count-eq-MOST_COMMANDS-via-else-count-eq-MOST_COMMANDS+then-not-is_frame}

@@ -1,0 +1,13 @@
+pub mod Commas
+pub mod Complete
+pub mod Dispatch
+pub mod Imports
+pub mod Lists
+pub mod Names
+pub mod Params
+pub mod Paths
+pub mod Places
+pub mod Reading
+pub mod Sound
+pub mod Steps
+pub mod Tokens

@@ -1,0 +1,13 @@
+pub mod Dotted
+pub mod Faults
+pub mod Firm
+pub mod Grows
+pub mod Hopeless
+pub mod Spelled
+pub mod Sure
+pub mod SureDocuments
+pub mod SureLevels
+pub mod SureMembers
+pub mod SureStatements
+pub mod SureTokens
+pub mod SureValues

@@ -1,0 +1,10 @@
+pub mod Fronts
+pub mod Names
+pub mod Numerals
+pub mod Signs
+pub mod Quotes
+pub mod Spelt
+pub mod Begins
+pub mod Places
+pub mod Whole
+pub mod Lawful

@@ -1,0 +1,21 @@
+mod Apart
+mod Binding
+mod Blocks
+mod Changes
+mod Claims
+mod Documents
+mod Expressions
+mod Following
+mod Heads
+pub mod Law
+mod MemberForms
+mod MemberOpenings
+mod Members
+mod Openings
+mod Parameters
+mod Runs
+mod Shorts
+mod Signs
+mod Spellings
+mod Statements
+mod Values

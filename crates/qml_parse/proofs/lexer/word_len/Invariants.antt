@@ -1,9 +1,0 @@
-use Rattle.std.proofs.Common.{◌≡◌, ◌+◌, ◌-◌, ◌≤◌, length, drop}
-use Rattle.qml_parse.specs.Lexing.{word_len}
-use Rattle.qml_parse.proofs.lexer.word_len.Given as goal
-
-abbrev pub invariant-loop-len : goal.invariant-loop-len
-invariant-loop-len l = (l.len + word_len (drop l.len l.bytes) ≡ word_len l.bytes) × (l.len ≤ length l.bytes)
-
-abbrev pub decreases-loop-len : goal.decreases-loop-len
-decreases-loop-len l = length l.bytes - l.len

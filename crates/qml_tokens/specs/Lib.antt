@@ -1,0 +1,4 @@
+pub mod Spelled
+pub mod Marks
+pub mod Within
+pub mod Laws

@@ -1,0 +1,11 @@
+pub mod Changes
+pub mod Complete
+pub mod CompleteParts
+pub mod Ends
+pub mod Firsts
+pub mod Loops
+pub mod Sound
+pub mod SoundParts
+pub mod Targets
+pub mod Ways
+pub mod Wholes
