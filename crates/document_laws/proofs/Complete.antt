@@ -45,8 +45,8 @@ use Rattle.document_laws.proofs.Tokens.{mark_is, upper_no_word, upper_not_own}
 
 -- the readings one level further in read what is spelled there
 pub record CompleteUnder (d : ℕ) (v : Under) : Type 0 where
-  pub members : (c : ℕ) (o : Token) (us : List Token) (z : Token) (xs : List Member) (j : Input) → d ≡ suc c → AreMembers c us (Some z) xs → IsMark z CloseBrace → v.members (before (o ∷ us ++ z ∷ []) j) ≡ Ok (xs, j)
-  pub group : (c : ℕ) (n : List ℕ) (o : Token) (us : List Token) (z : Token) (xs : List Member) (j : Input) → d ≡ suc c → AreEntries c n us (Some z) xs → IsMark z CloseBrace → v.group n (before (o ∷ us ++ z ∷ []) j) ≡ Ok (xs, j)
+  pub members : (c : ℕ) (o : Token) (us : List Token) (z : Token) (xs : List Member) (j : Input) → d ≡ suc c → AreMembers 200 c us (Some z) xs → IsMark z CloseBrace → v.members (before (o ∷ us ++ z ∷ []) j) ≡ Ok (xs, j)
+  pub group : (c : ℕ) (n : List ℕ) (o : Token) (us : List Token) (z : Token) (xs : List Member) (j : Input) → d ≡ suc c → AreEntries 200 c n us (Some z) xs → IsMark z CloseBrace → v.group n (before (o ∷ us ++ z ∷ []) j) ≡ Ok (xs, j)
 
 -- how a member that has an end is read, without it
 record ShortRead (d : ℕ) (v : Under) (us : List Token) (next : Option Token) (x : Member) : Type 0 where
@@ -61,21 +61,21 @@ first_at i t vs ws r e = ap head (r ∙ ap (λ ts. ts ++ ws) e)
 module _ (d : ℕ) (v : Under) (inside : CompleteUnder d v) where
   -- Objects and values
 
-  object_read : (c : ℕ) (t o : Token) (us : List Token) (z : Token) (n : List ℕ) (xs : List Member) (j : Input) → d ≡ suc c → IsName t n → upper_first n ≡ true → IsMark o OpenBrace → AreMembers c us (Some z) xs → IsMark z CloseBrace → object_in v (before (t ∷ o ∷ us ++ z ∷ []) j) ≡ Ok (roll-Decl (record { name = n; members = xs; span = t.span }), j)
+  object_read : (c : ℕ) (t o : Token) (us : List Token) (z : Token) (n : List ℕ) (xs : List Member) (j : Input) → d ≡ suc c → IsName t n → upper_first n ≡ true → IsMark o OpenBrace → AreMembers 200 c us (Some z) xs → IsMark z CloseBrace → object_in v (before (t ∷ o ∷ us ++ z ∷ []) j) ≡ Ok (roll-Decl (record { name = n; members = xs; span = t.span }), j)
   unfolding object_in body
   object_read c t o us z n xs j d_is is up begins listed closes = found _ _ is (if_true _ _ up (ok_then _ (if_true _ _ begins (inside.members c o us z xs j d_is listed closes)) refl))
 
-  pub object_goes : {ts : List Token} {x : Decl} (j : Input) → IsObject d ts x → object_in v (before ts j) ≡ Ok (x, j)
+  pub object_goes : {ts : List Token} {x : Decl} (j : Input) → IsObject 200 d ts x → object_in v (before ts j) ≡ Ok (x, j)
   object_goes j (an_object c t o us z n xs d_is ts_is x_is is up begins listed closes) = rw (ts_is, x_is) (object_read c t o us z n xs j d_is is up begins listed closes)
 
-  object_begins : {ts : List Token} {x : Decl} (ws : List Token) → IsObject d ts x → begins_object (ts ++ ws) ≡ true
+  object_begins : {ts : List Token} {x : Decl} (ws : List Token) → IsObject 200 d ts x → begins_object (ts ++ ws) ≡ true
   object_begins ws (an_object c t o us z n xs d_is ts_is x_is is up begins listed closes) = ap (λ ts. begins_object (ts ++ ws)) ts_is ∙ object_test t o ((us ++ z ∷ []) ++ ws) n is up begins
 
-  object_value_read : (t : Token) (us : List Token) (y : Decl) (j : Input) → IsObject d (t ∷ us) y → value_in d v (before (t ∷ us) j) ≡ Ok (record { init = ii.Object y; span = t.span }, j)
+  object_value_read : (t : Token) (us : List Token) (y : Decl) (j : Input) → IsObject 200 d (t ∷ us) y → value_in d v (before (t ∷ us) j) ≡ Ok (record { init = ii.Object y; span = t.span }, j)
   unfolding value_in object_value
   object_value_read t us y j p = if_true _ _ (object_begins j.rest p) (ok_then _ (object_goes j p) refl)
 
-  expr_value_read : (t : Token) (us : List Token) (y : Expr) (j : Input) → IsWhole d (t ∷ us) (ahead j) y → IsNoType (t ∷ us) (ahead j) → value_in d v (before (t ∷ us) j) ≡ Ok (record { init = ii.Expr y; span = value_place y (t ∷ us) t.span }, j)
+  expr_value_read : (t : Token) (us : List Token) (y : Expr) (j : Input) → IsWhole 200 d (t ∷ us) (ahead j) y → IsNoType (t ∷ us) (ahead j) → value_in d v (before (t ∷ us) j) ≡ Ok (record { init = ii.Expr y; span = value_place y (t ∷ us) t.span }, j)
   unfolding value_in expr_value
   expr_value_read t us y j p free =
       let i : Input = before (t ∷ us) j in
@@ -83,10 +83,10 @@ module _ (d : ℕ) (v : Under) (inside : CompleteUnder d v) where
       let at = place_within d p.nodes t us j.rest y j.end p.spelled in
       if_false _ _ (expr_no_object d i j y c free) (if_false _ _ (expr_no_dotted d i j y c free) (ok_then _ (reads_whole d i j y c) (ap (λ s. Ok (record { init = ii.Expr y; span = s }, j)) at)))
 
-  pub value_goes : {ts : List Token} {next : Option Token} {x : Init} {at : Span} (j : Input) → ahead j ≡ next → IsValue d ts next x at → value_in d v (before ts j) ≡ Ok (record { init = x; span = at }, j)
-  value_goes j e (value_object t us y ts_is x_is at_is p) = rw (ts_is, x_is, at_is) (object_value_read t us y j (subst (λ ts. IsObject d ts y) ts_is p))
+  pub value_goes : {ts : List Token} {next : Option Token} {x : Init} {at : Span} (j : Input) → ahead j ≡ next → IsValue 200 d ts next x at → value_in d v (before ts j) ≡ Ok (record { init = x; span = at }, j)
+  value_goes j e (value_object t us y ts_is x_is at_is p) = rw (ts_is, x_is, at_is) (object_value_read t us y j (subst (λ ts. IsObject 200 d ts y) ts_is p))
   value_goes {ts = ts} {next = next} j e (an_expr t us y ts_is x_is at_is p free) =
-      let longest : IsWhole d (t ∷ us) (ahead j) y = subst (λ n. IsWhole d (t ∷ us) n y) (sym e) (subst (λ ws. IsWhole d ws next y) ts_is p) in
+      let longest : IsWhole 200 d (t ∷ us) (ahead j) y = subst (λ n. IsWhole 200 d (t ∷ us) n y) (sym e) (subst (λ ws. IsWhole 200 d ws next y) ts_is p) in
       let untyped : IsNoType (t ∷ us) (ahead j) = subst (λ n. IsNoType (t ∷ us) n) (sym e) (subst (λ ws. IsNoType ws next) ts_is free) in
       rw (x_is, at_is, ts_is) (expr_value_read t us y j longest untyped)
 
@@ -96,35 +96,35 @@ module _ (d : ℕ) (v : Under) (inside : CompleteUnder d v) where
   unfolding id_member
   id_read t o u n l colon is = ok_then _ (expect_before Colon o (u ∷ []) l colon) (ok_then _ (name_before n u [] l is) refl)
 
-  maybe_goes : {us : List Token} {next : Option Token} {y : Option Init} {at there : Span} (fixed : Bool) (k n : List ℕ) (s : Span) (l : Input) → ahead l ≡ next → IsMaybeValue d us next y at there → property_value d v fixed k s n there (before us l) ≡ Ok (mm.Property fixed k n y s at there, l)
+  maybe_goes : {us : List Token} {next : Option Token} {y : Option Init} {at there : Span} (fixed : Bool) (k n : List ℕ) (s : Span) (l : Input) → ahead l ≡ next → IsMaybeValue 200 d us next y at there → property_value d v fixed k s n there (before us l) ≡ Ok (mm.Property fixed k n y s at there, l)
   unfolding property_value
   maybe_goes fixed k n s l e (no_value us_is y_is at_is other) = rw (us_is, y_is, at_is) (if_false _ _ (ap (is_mark Colon) e ∙ other) refl)
   maybe_goes fixed k n s l e (a_value o us y us_is y_is colon p) = rw (us_is, y_is) (if_true _ _ colon (ok_then _ (value_goes l e p) refl))
 
-  kind_and_name_go : {us : List Token} {next : Option Token} {y : Option Init} {at : Span} (fixed : Bool) (u w : Token) (k n : List ℕ) (l : Input) → ahead l ≡ next → IsName u k → is_word ww.Alias (Some u) ≡ false → IsName w n → IsMaybeValue d us next y at w.span → kind_and_name d v fixed (before (u ∷ w ∷ us) l) ≡ Ok (mm.Property fixed k n y u.span at w.span, l)
+  kind_and_name_go : {us : List Token} {next : Option Token} {y : Option Init} {at : Span} (fixed : Bool) (u w : Token) (k n : List ℕ) (l : Input) → ahead l ≡ next → IsName u k → is_word ww.Alias (Some u) ≡ false → IsName w n → IsMaybeValue 200 d us next y at w.span → kind_and_name d v fixed (before (u ∷ w ∷ us) l) ≡ Ok (mm.Property fixed k n y u.span at w.span, l)
   unfolding kind_and_name property_kind
   kind_and_name_go {us = us} fixed u w k n l e kind_is no_alias is p =
       ok_then _ (if_false _ _ no_alias (kind_goes k n u w us l kind_is is)) (ok_then _ (name_before n w us l is) (maybe_goes fixed k n u.span l e p))
 
-  property_reads : {us : List Token} {next : Option Token} {y : Option Init} {at : Span} (t u w : Token) (k n : List ℕ) (l : Input) → ahead l ≡ next → IsName u k → is_word ww.Alias (Some u) ≡ false → IsName w n → IsMaybeValue d us next y at w.span → property d v false (before (t ∷ u ∷ w ∷ us) l) ≡ Ok (mm.Property false k n y u.span at w.span, l)
+  property_reads : {us : List Token} {next : Option Token} {y : Option Init} {at : Span} (t u w : Token) (k n : List ℕ) (l : Input) → ahead l ≡ next → IsName u k → is_word ww.Alias (Some u) ≡ false → IsName w n → IsMaybeValue 200 d us next y at w.span → property d v false (before (t ∷ u ∷ w ∷ us) l) ≡ Ok (mm.Property false k n y u.span at w.span, l)
   unfolding property
   property_reads t u w k n l e kind_is no_alias is p = kind_and_name_go false u w k n l e kind_is no_alias is p
 
-  fixed_reads : {us : List Token} {next : Option Token} {y : Option Init} {at : Span} (r t u w : Token) (k n : List ℕ) (l : Input) → ahead l ≡ next → IsWord t ww.Property → IsName u k → is_word ww.Alias (Some u) ≡ false → IsName w n → IsMaybeValue d us next y at w.span → fixed_property d v (before (r ∷ t ∷ u ∷ w ∷ us) l) ≡ Ok (mm.Property true k n y u.span at w.span, l)
+  fixed_reads : {us : List Token} {next : Option Token} {y : Option Init} {at : Span} (r t u w : Token) (k n : List ℕ) (l : Input) → ahead l ≡ next → IsWord t ww.Property → IsName u k → is_word ww.Alias (Some u) ≡ false → IsName w n → IsMaybeValue 200 d us next y at w.span → fixed_property d v (before (r ∷ t ∷ u ∷ w ∷ us) l) ≡ Ok (mm.Property true k n y u.span at w.span, l)
   unfolding fixed_property property
   fixed_reads r t u w k n l e word_is kind_is no_alias is p = if_true _ _ word_is (kind_and_name_go true u w k n l e kind_is no_alias is p)
 
   -- Members of paths
 
-  stmt_goes : {ts : List Token} {next : Option Token} {x : Stmt} (l : Input) → ahead l ≡ next → IsStmt d ts next x → statement d (before ts l) ≡ Ok (x, l)
-  stmt_goes {ts = ts} {x = x} l e p = statement_complete d (before ts l) l x (record { text = ts; way = way_before ts l; spelled = subst (λ n. IsStmt d ts n x) (sym e) p })
+  stmt_goes : {ts : List Token} {next : Option Token} {x : Stmt} (l : Input) → ahead l ≡ next → IsStmt 200 d ts next x → statement d (before ts l) ≡ Ok (x, l)
+  stmt_goes {ts = ts} {x = x} l e p = statement_complete d (before ts l) l x (record { text = ts; way = way_before ts l; spelled = subst (λ n. IsStmt 200 d ts n x) (sym e) p })
 
-  handled_reads : {next : Option Token} (t : Token) (us : List Token) (o : Token) (vs : List Token) (p : Path) (y : Stmt) (l : Input) → ahead l ≡ next → IsPath (t ∷ us) p → is_handler_path p ≡ true → IsMark o Colon → IsStmt d vs next y → path_member d v (before ((t ∷ us) ++ o ∷ vs) l) ≡ Ok (mm.Handler p y t.span, l)
+  handled_reads : {next : Option Token} (t : Token) (us : List Token) (o : Token) (vs : List Token) (p : Path) (y : Stmt) (l : Input) → ahead l ≡ next → IsPath (t ∷ us) p → is_handler_path p ≡ true → IsMark o Colon → IsStmt 200 d vs next y → path_member d v (before ((t ∷ us) ++ o ∷ vs) l) ≡ Ok (mm.Handler p y t.span, l)
   unfolding path_member behind_path handled same_mark mark_number
   handled_reads t us o vs p y l e path_is handler colon q =
       ap (path_member d v) (before_both (t ∷ us) (o ∷ vs) l) ∙ ok_then _ (path_goes (before (o ∷ vs) l) path_is (mark_is Dot Colon o colon)) (ok_then _ (expect_before Colon o vs l colon) (if_true _ _ handler (ok_then _ (stmt_goes l e q) refl)))
 
-  initialised_reads : {next : Option Token} (t : Token) (us : List Token) (o : Token) (vs : List Token) (p : Path) (y : Init) (at : Span) (l : Input) → ahead l ≡ next → IsPath (t ∷ us) p → is_handler_path p ≡ false → IsMark o Colon → IsValue d vs next y at → path_member d v (before ((t ∷ us) ++ o ∷ vs) l) ≡ Ok (mm.Init p y at t.span, l)
+  initialised_reads : {next : Option Token} (t : Token) (us : List Token) (o : Token) (vs : List Token) (p : Path) (y : Init) (at : Span) (l : Input) → ahead l ≡ next → IsPath (t ∷ us) p → is_handler_path p ≡ false → IsMark o Colon → IsValue 200 d vs next y at → path_member d v (before ((t ∷ us) ++ o ∷ vs) l) ≡ Ok (mm.Init p y at t.span, l)
   unfolding path_member behind_path initialised same_mark mark_number
   initialised_reads t us o vs p y at l e path_is plain colon q =
       ap (path_member d v) (before_both (t ∷ us) (o ∷ vs) l) ∙ ok_then _ (path_goes (before (o ∷ vs) l) path_is (mark_is Dot Colon o colon)) (ok_then _ (expect_before Colon o vs l colon) (if_false _ _ plain (ok_then _ (value_goes l e q) refl)))
@@ -135,7 +135,7 @@ module _ (d : ℕ) (v : Under) (inside : CompleteUnder d v) where
 
   -- Members with an end
 
-  short_read : {ts : List Token} {next : Option Token} {x : Member} → IsShortMember d ts next x → ShortRead d v ts next x
+  short_read : {ts : List Token} {next : Option Token} {x : Member} → IsShortMember 200 d ts next x → ShortRead d v ts next x
   unfolding signal_member
   short_read (an_id t o u n ts_is x_is word_is colon is) = record {
     parser = id_member;
@@ -177,14 +177,14 @@ module _ (d : ℕ) (v : Under) (inside : CompleteUnder d v) where
 
   -- Members with braces
 
-  block_opens : {ts : List Token} {xs : List Stmt} (l : Input) → IsBlock d ts xs → is_mark OpenBrace (ahead (before ts l)) ≡ true
+  block_opens : {ts : List Token} {xs : List Stmt} (l : Input) → IsBlock 200 d ts xs → is_mark OpenBrace (ahead (before ts l)) ≡ true
   block_opens l (braces c o us z d_is ts_is begins listed closes) = ap (λ ts. is_mark OpenBrace (head (ts ++ l.rest))) ts_is ∙ begins
 
-  block_goes : (ts : List Token) (xs : List Stmt) (l : Input) → IsBlock d ts xs → method_block d (before ts l) ≡ Ok (xs, l)
+  block_goes : (ts : List Token) (xs : List Stmt) (l : Input) → IsBlock 200 d ts xs → method_block d (before ts l) ≡ Ok (xs, l)
   unfolding method_block
   block_goes ts xs l p = if_true _ _ (block_opens l p) (block_complete d (before ts l) l xs (record { text = ts; way = way_before ts l; spelled = p }))
 
-  method_reads : (t u : Token) (us vs : List Token) (n : List ℕ) (ps : List MethodParam) (ys : List Stmt) (j : Input) → IsName u n → AreMethodParens us ps → IsBlock d vs ys → alone (method d) (before (t ∷ u ∷ us ++ vs) j) ≡ Ok (mm.Method n ps ys u.span ∷ [], j)
+  method_reads : (t u : Token) (us vs : List Token) (n : List ℕ) (ps : List MethodParam) (ys : List Stmt) (j : Input) → IsName u n → AreMethodParens us ps → IsBlock 200 d vs ys → alone (method d) (before (t ∷ u ∷ us ++ vs) j) ≡ Ok (mm.Method n ps ys u.span ∷ [], j)
   unfolding alone method method_behind
   method_reads t u us vs n ps ys j is params block =
       let l : Input = before vs j in
@@ -192,22 +192,22 @@ module _ (d : ℕ) (v : Under) (inside : CompleteUnder d v) where
       let all : method d (before (t ∷ u ∷ us ++ vs) j) ≡ Ok (mm.Method n ps ys u.span, j) = ok_then _ (name_before n u (us ++ vs) j is) (ok_then _ read (ok_then _ (block_goes vs ys j block) refl)) in
       ok_then _ all refl
 
-  group_reads : (c : ℕ) (t o : Token) (us : List Token) (z : Token) (n : List ℕ) (xs : List Member) (j : Input) → d ≡ suc c → IsName t n → AreEntries c n us (Some z) xs → IsMark z CloseBrace → grouped v (before (t ∷ o ∷ us ++ z ∷ []) j) ≡ Ok (xs, j)
+  group_reads : (c : ℕ) (t o : Token) (us : List Token) (z : Token) (n : List ℕ) (xs : List Member) (j : Input) → d ≡ suc c → IsName t n → AreEntries 200 c n us (Some z) xs → IsMark z CloseBrace → grouped v (before (t ∷ o ∷ us ++ z ∷ []) j) ≡ Ok (xs, j)
   unfolding grouped
   group_reads c t o us z n xs j d_is is listed closes = ok_then _ (name_before n t (o ∷ us ++ z ∷ []) j is) (inside.group c n o us z xs j d_is listed closes)
 
-  child_reads : (c : ℕ) (t o : Token) (us : List Token) (z : Token) (n : List ℕ) (xs : List Member) (j : Input) → d ≡ suc c → IsName t n → upper_first n ≡ true → IsMark o OpenBrace → AreMembers c us (Some z) xs → IsMark z CloseBrace → member_in d v (before (t ∷ o ∷ us ++ z ∷ []) j) ≡ Ok (mm.Child (roll-Decl (record { name = n; members = xs; span = t.span })) ∷ [], j)
+  child_reads : (c : ℕ) (t o : Token) (us : List Token) (z : Token) (n : List ℕ) (xs : List Member) (j : Input) → d ≡ suc c → IsName t n → upper_first n ≡ true → IsMark o OpenBrace → AreMembers 200 c us (Some z) xs → IsMark z CloseBrace → member_in d v (before (t ∷ o ∷ us ++ z ∷ []) j) ≡ Ok (mm.Child (roll-Decl (record { name = n; members = xs; span = t.span })) ∷ [], j)
   unfolding child
   child_reads c t o us z n xs j d_is is up begins listed closes =
       let i : Input = before (t ∷ o ∷ us ++ z ∷ []) j in
       by_name d v i t refl (upper_not_own t is up) ∙ (by_object d v i t o ((us ++ z ∷ []) ++ j.rest) n refl is up begins ∙ ok_then _ (object_read c t o us z n xs j d_is is up begins listed closes) refl)
 
-  child_goes : {ts : List Token} {y : Decl} (j : Input) → IsObject d ts y → member_in d v (before ts j) ≡ Ok (mm.Child y ∷ [], j)
+  child_goes : {ts : List Token} {y : Decl} (j : Input) → IsObject 200 d ts y → member_in d v (before ts j) ≡ Ok (mm.Child y ∷ [], j)
   child_goes j (an_object c t o us z n xs d_is ts_is x_is is up begins listed closes) = rw (ts_is, x_is) (child_reads c t o us z n xs j d_is is up begins listed closes)
 
   -- Members
 
-  pub member_goes : {ts : List Token} {next : Option Token} {xs : List Member} (j : Input) → ahead j ≡ next → IsMember d ts next xs → member_in d v (before ts j) ≡ Ok (xs, j)
+  pub member_goes : {ts : List Token} {next : Option Token} {xs : List Member} (j : Input) → ahead j ≡ next → IsMember 200 d ts next xs → member_in d v (before ts j) ≡ Ok (xs, j)
   member_goes {next = next} j e (short us es x ts_is xs_is p ends) = rw (ts_is, xs_is) (short_goes us es next x j e (short_read p) ends)
   member_goes j e (a_method t u us vs n ps ys ts_is xs_is word_is is params block) =
       rw (ts_is, xs_is) (by_function d v (before (t ∷ u ∷ us ++ vs) j) t refl word_is ∙ method_reads t u us vs n ps ys j is params block)
@@ -216,22 +216,22 @@ module _ (d : ℕ) (v : Under) (inside : CompleteUnder d v) where
       ap (λ ts. member_in d v (before ts j)) ts_is ∙ (by_name d v i t refl own ∙ (by_group d v i t o ((us ++ z ∷ []) ++ j.rest) n refl is low begins ∙ group_reads c t o us z n xs j d_is is listed closes))
   member_goes j e (a_child y xs_is p) = rw xs_is (child_goes j p)
 
-  one_member_goes : (us : List Token) (next : Option Token) (ys xs : List Member) (j : Input) → ahead j ≡ next → IsMember d us next ys → one_member d v xs (before us j) ≡ Ok (xs ++ ys, j)
+  one_member_goes : (us : List Token) (next : Option Token) (ys xs : List Member) (j : Input) → ahead j ≡ next → IsMember 200 d us next ys → one_member d v xs (before us j) ≡ Ok (xs ++ ys, j)
   unfolding one_member
   one_member_goes us next ys xs j e p = ok_then _ (member_goes j e p) refl
 
-  pub members_go : (us : List Token) (z : Token) (xs : List Member) (j : Input) → AreMembers d us (Some z) xs → IsMark z CloseBrace → members d v (before (us ++ z ∷ []) j) ≡ Ok (xs, j)
+  pub members_go : (us : List Token) (z : Token) (xs : List Member) (j : Input) → AreMembers 200 d us (Some z) xs → IsMark z CloseBrace → members d v (before (us ++ z ∷ []) j) ≡ Ok (xs, j)
   unfolding members
-  members_go us z xs j p closes = until_brace_goes (IsMember d) (one_member d v) (member_begins d) one_member_goes us z xs j (members_items p) closes
+  members_go us z xs j p closes = until_brace_goes (IsMember 200 d) (one_member d v) (member_begins d) one_member_goes us z xs j (members_items p) closes
 
   -- Entries of groups
 
-  entry_reads : {next : Option Token} (g : List ℕ) (t o : Token) (us : List Token) (m : List ℕ) (y : Init) (at : Span) (l : Input) → ahead l ≡ next → IsName t m → is_handler_name m ≡ false → IsMark o Colon → IsValue d us next y at → entry d v g (before (t ∷ o ∷ us) l) ≡ Ok (mm.Init (record { first = g; second = Some m }) y at t.span, l)
+  entry_reads : {next : Option Token} (g : List ℕ) (t o : Token) (us : List Token) (m : List ℕ) (y : Init) (at : Span) (l : Input) → ahead l ≡ next → IsName t m → is_handler_name m ≡ false → IsMark o Colon → IsValue 200 d us next y at → entry d v g (before (t ∷ o ∷ us) l) ≡ Ok (mm.Init (record { first = g; second = Some m }) y at t.span, l)
   unfolding entry
   entry_reads g t o us m y at l e is plain colon p =
       ok_then _ (entry_name_goes m t (o ∷ us) l is plain) (ok_then _ (expect_before Colon o us l colon) (ok_then _ (value_goes l e p) refl))
 
-  entry_goes : {g : List ℕ} {ts : List Token} {next : Option Token} {x : Member} (l : Input) → ahead l ≡ next → IsEntry d g ts next x → entry d v g (before ts l) ≡ Ok (x, l)
+  entry_goes : {g : List ℕ} {ts : List Token} {next : Option Token} {x : Member} (l : Input) → ahead l ≡ next → IsEntry 200 d g ts next x → entry d v g (before ts l) ≡ Ok (x, l)
   entry_goes {g = g} l e (an_entry t o us m y at ts_is x_is is plain colon value) = rw (ts_is, x_is) (entry_reads g t o us m y at l e is plain colon value)
 
   an_entry_goes : (g : List ℕ) (ts : List Token) (next : Option Token) (ys xs : List Member) (j : Input) → ahead j ≡ next → AnEntry d g ts next ys → one_entry d v g xs (before ts j) ≡ Ok (xs ++ ys, j)
@@ -240,7 +240,7 @@ module _ (d : ℕ) (v : Under) (inside : CompleteUnder d v) where
       let read = ended_goes (entry d v g) us es next y j e (entry_goes (before es j) (ahead_before es j e) p) ends in
       rw (ts_is, ys_is) (ok_then _ read refl)
 
-  pub entries_go : (g : List ℕ) (us : List Token) (z : Token) (xs : List Member) (j : Input) → AreEntries d g us (Some z) xs → IsMark z CloseBrace → entries d v g (before (us ++ z ∷ []) j) ≡ Ok (xs, j)
+  pub entries_go : (g : List ℕ) (us : List Token) (z : Token) (xs : List Member) (j : Input) → AreEntries 200 d g us (Some z) xs → IsMark z CloseBrace → entries d v g (before (us ++ z ∷ []) j) ≡ Ok (xs, j)
   unfolding entries
   entries_go g us z xs j p closes = until_brace_goes (AnEntry d g) (one_entry d v g) (entry_begins d g) (an_entry_goes g) us z xs j (entries_items p) closes
 
@@ -249,8 +249,8 @@ module _ (d : ℕ) (v : Under) (inside : CompleteUnder d v) where
 level_complete : (d : ℕ) → CompleteUnder d (under d) → CompleteUnder (suc d) (record { members = member_braces d (under d); group = group_braces d (under d) })
 unfolding member_braces group_braces
 level_complete d inside = record {
-  members = λ c o us z xs j e p closes. members_go d (under d) inside us z xs j (subst (λ n. AreMembers n us (Some z) xs) (one_less c d e) p) closes;
-  group = λ c g o us z xs j e p closes. entries_go d (under d) inside g us z xs j (subst (λ n. AreEntries n g us (Some z) xs) (one_less c d e) p) closes;
+  members = λ c o us z xs j e p closes. members_go d (under d) inside us z xs j (subst (λ n. AreMembers 200 n us (Some z) xs) (one_less c d e) p) closes;
+  group = λ c g o us z xs j e p closes. entries_go d (under d) inside g us z xs j (subst (λ n. AreEntries 200 n g us (Some z) xs) (one_less c d e) p) closes;
 }
 
 pub under_complete : (d : ℕ) → CompleteUnder d (under d)
@@ -263,7 +263,7 @@ under_complete (suc d) = level_complete d (under_complete d)
 
 -- Documents
 
-object_first : {d : ℕ} {ts : List Token} {x : Decl} (follows : Option Token → Bool) → IsObject d ts x → (is_word ww.Import (follow ts None) ≡ false) × (is_dotted_type follows (ts ++ []) ≡ false)
+object_first : {d : ℕ} {ts : List Token} {x : Decl} (follows : Option Token → Bool) → IsObject 200 d ts x → (is_word ww.Import (follow ts None) ≡ false) × (is_dotted_type follows (ts ++ []) ≡ false)
 unfolding same_mark mark_number
 object_first follows (an_object c t o us z n xs d_is ts_is x_is is up begins listed closes) = (
   ap (λ ts. is_word ww.Import (follow ts None)) ts_is ∙ upper_no_word ww.Import t is up,
@@ -274,14 +274,14 @@ object_first follows (an_object c t o us z n xs d_is ts_is x_is is up begins lis
 abbrev last_input : Span → Input
 last_input end = record { rest = []; end = end; nodes = 0 }
 
-document_reads : (us vs : List Token) (xs : List Import) (z : Decl) (end : Span) → AreImports us (follow vs None) xs → IsObject 64 vs z → object_in (under 64) (before vs (last_input end)) ≡ Ok (z, last_input end) → document (before us (before vs (last_input end))) ≡ Ok (record { imports = xs; root = z }, last_input end)
+document_reads : (us vs : List Token) (xs : List Import) (z : Decl) (end : Span) → AreImports us (follow vs None) xs → IsObject 200 64 vs z → object_in (under 64) (before vs (last_input end)) ≡ Ok (z, last_input end) → document (before us (before vs (last_input end))) ≡ Ok (record { imports = xs; root = z }, last_input end)
 unfolding document root nothing_more
 document_reads us vs xs z end are is read =
     let first = object_first (is_mark OpenBrace) is in
     let l : Input = before vs (last_input end) in
     ok_then _ (imports_go us (follow vs None) xs l (ahead_before vs (last_input end) refl) are first.0) (ok_then _ (if_false _ _ first.1 read) refl)
 
-pub document_goes : ((ts : List Token) (x : Decl) (j : Input) → IsObject 64 ts x → object_in (under 64) (before ts j) ≡ Ok (x, j)) → (ts : List Token) (end : Span) (x : Document) → IsDocument ts x → reading ts end ≡ Ok x
+pub document_goes : ((ts : List Token) (x : Decl) (j : Input) → IsObject 200 64 ts x → object_in (under 64) (before ts j) ≡ Ok (x, j)) → (ts : List Token) (end : Span) (x : Document) → IsDocument ts x → reading ts end ≡ Ok x
 unfolding reading
 document_goes objects ts end x (a_document us vs ys z ts_is x_is are is) =
     let i : Input = record { rest = ts; end = end; nodes = 0 } in

@@ -23,7 +23,7 @@ value_reads d i j x h = value_covers d (under d) (under_sound d) i x j h
 pub object_reads : (d : ℕ) (i j : Input) (x : Decl) → object_in (under d) i ≡ Ok (x, j) → Covers (IsObjectBefore d) i j x
 object_reads d i j x h = object_covers d (under d) (under_sound d) i x j h
 
-pub member_reads : (d : ℕ) (i j : Input) (xs : List Member) → member_in d (under d) i ≡ Ok (xs, j) → Covers (IsMember d) i j xs
+pub member_reads : (d : ℕ) (i j : Input) (xs : List Member) → member_in d (under d) i ≡ Ok (xs, j) → Covers (IsMember 200 d) i j xs
 member_reads d i j xs h = member_covers d (under d) (under_sound d) i xs j h
 
 pub document_reads : (ts : List Token) (end : Span) (x : Document) → reading ts end ≡ Ok x → IsDocument ts x
@@ -37,7 +37,7 @@ reads_value d i j x c = ap (value_in d (under d)) (arrived c.way) ∙ value_goes
 pub reads_object : (d : ℕ) (i j : Input) (x : Decl) → Covers (IsObjectBefore d) i j x → object_in (under d) i ≡ Ok (x, j)
 reads_object d i j x c = ap (object_in (under d)) (arrived c.way) ∙ object_goes d (under d) (under_complete d) j c.spelled
 
-pub reads_member : (d : ℕ) (i j : Input) (xs : List Member) → Covers (IsMember d) i j xs → member_in d (under d) i ≡ Ok (xs, j)
+pub reads_member : (d : ℕ) (i j : Input) (xs : List Member) → Covers (IsMember 200 d) i j xs → member_in d (under d) i ≡ Ok (xs, j)
 reads_member d i j xs c = ap (member_in d (under d)) (arrived c.way) ∙ member_goes d (under d) (under_complete d) j refl c.spelled
 
 pub reads_document : (ts : List Token) (end : Span) (x : Document) → IsDocument ts x → reading ts end ≡ Ok x

@@ -58,11 +58,11 @@ pub record Braced (Spells : ℕ → List Token → Option Token → List Member 
 
 -- entries of the group of the name
 abbrev pub EntriesOf : List ℕ → ℕ → List Token → Option Token → List Member → Type 0
-EntriesOf n d ts next xs = AreEntries d n ts next xs
+EntriesOf n d ts next xs = AreEntries 200 d n ts next xs
 
 -- the readings one level further in are right
 pub record SoundUnder (d : ℕ) (v : Under) : Type 0 where
-  pub members : (i : Input) (xs : List Member) (j : Input) → is_mark OpenBrace (ahead i) ≡ true → v.members i ≡ Ok (xs, j) → Braced AreMembers d i j xs
+  pub members : (i : Input) (xs : List Member) (j : Input) → is_mark OpenBrace (ahead i) ≡ true → v.members i ≡ Ok (xs, j) → Braced (AreMembers 200) d i j xs
   pub group : (n : List ℕ) (i : Input) (xs : List Member) (j : Input) → is_mark OpenBrace (ahead i) ≡ true → v.group n i ≡ Ok (xs, j) → Braced (EntriesOf n) d i j xs
 
 -- [ ":" value ] that was read, behind the name of a property
@@ -71,7 +71,7 @@ record ValueRead (d : ℕ) (fixed : Bool) (k n : List ℕ) (at there : Span) (i 
   way : Way i j 0 text
   value : Option Init
   place : Span
-  spelled : IsMaybeValue d text (ahead j) value place there
+  spelled : IsMaybeValue 200 d text (ahead j) value place there
   is : x ≡ mm.Property fixed k n value at place there
 
 value_to : {d : ℕ} {fixed : Bool} {k n : List ℕ} {at there : Span} {i j l : Input} {x y : Member} → ValueRead d fixed k n at there i j x → x ≡ y → j ≡ l → ValueRead d fixed k n at there i l y
@@ -91,12 +91,12 @@ record PropertyRead (d : ℕ) (fixed : Bool) (i j : Input) (x : Member) : Type 0
   kind_is : IsName kind kind_text
   no_alias : is_word ww.Alias (Some kind) ≡ false
   name_is : IsName name name_text
-  spelled : IsMaybeValue d text (ahead j) value at name.span
+  spelled : IsMaybeValue 200 d text (ahead j) value at name.span
 
 module _ (d : ℕ) (v : Under) (inside : SoundUnder d v) where
   -- Objects and values
 
-  body_braced : (i : Input) (xs : List Member) (j : Input) → body v i ≡ Ok (xs, j) → Braced AreMembers d i j xs
+  body_braced : (i : Input) (xs : List Member) (j : Input) → body v i ≡ Ok (xs, j) → Braced (AreMembers 200) d i j xs
   unfolding body
   body_braced i xs j h = elim (if_ok (is_mark OpenBrace (ahead i)) _ _ _ h) [
     | inl a ↦ inside.members i xs j a.0 a.1
@@ -123,7 +123,7 @@ module _ (d : ℕ) (v : Under) (inside : SoundUnder d v) where
   unfolding object_in
   object_covers i x j h = object_from i x j (name_of (ahead i)) _ _ refl h
 
-  object_valued : {i j : Input} {ts : List Token} {next : Option Token} {x : Decl} → Way i j 0 ts → IsObject d ts x → IsValue d ts next (ii.Object x) (place i)
+  object_valued : {i j : Input} {ts : List Token} {next : Option Token} {x : Decl} → Way i j 0 ts → IsObject 200 d ts x → IsValue 200 d ts next (ii.Object x) (place i)
   object_valued {i = i} {j = j} {x = x} w (object c t o us z n xs d_is ts_is x_is is up begins members closes) =
       value_object t (o ∷ us ++ z ∷ []) x ts_is refl (placed (subst (λ vs. Way i j 0 vs) ts_is w)) (object c t o us z n xs d_is ts_is x_is is up begins members closes)
 
@@ -162,7 +162,7 @@ module _ (d : ℕ) (v : Under) (inside : SoundUnder d v) where
 
   -- Members of words
 
-  id_covers : (i : Input) → is_word ww.Id (ahead i) ≡ true → (x : Member) (j : Input) → id_member i ≡ Ok (x, j) → Covers (IsShortMember d) i j x
+  id_covers : (i : Input) → is_word ww.Id (ahead i) ≡ true → (x : Member) (j : Input) → id_member i ≡ Ok (x, j) → Covers (IsShortMember 200 d) i j x
   unfolding id_member
   id_covers i h x j r =
       let t = ahead_some (is_word ww.Id) refl i h in
@@ -233,7 +233,7 @@ module _ (d : ℕ) (v : Under) (inside : SoundUnder d v) where
         spelled = r.spelled;
       }
 
-  property_covers : (i : Input) → is_word ww.Property (ahead i) ≡ true → (x : Member) (j : Input) → property d v false i ≡ Ok (x, j) → Covers (IsShortMember d) i j x
+  property_covers : (i : Input) → is_word ww.Property (ahead i) ≡ true → (x : Member) (j : Input) → property d v false i ≡ Ok (x, j) → Covers (IsShortMember 200 d) i j x
   unfolding property
   property_covers i h x j r =
       let t = ahead_some (is_word ww.Property) refl i h in
@@ -244,7 +244,7 @@ module _ (d : ℕ) (v : Under) (inside : SoundUnder d v) where
         spelled = a_property t.token p.kind p.name p.text p.kind_text p.name_text p.value p.at refl p.is t.is p.kind_is p.no_alias p.name_is p.spelled;
       }
 
-  fixed_covers : (i : Input) → is_word ww.ReadOnly (ahead i) ≡ true → (x : Member) (j : Input) → fixed_property d v i ≡ Ok (x, j) → Covers (IsShortMember d) i j x
+  fixed_covers : (i : Input) → is_word ww.ReadOnly (ahead i) ≡ true → (x : Member) (j : Input) → fixed_property d v i ≡ Ok (x, j) → Covers (IsShortMember 200 d) i j x
   unfolding fixed_property property
   fixed_covers i h x j r =
       let t = ahead_some (is_word ww.ReadOnly) refl i h in
@@ -260,7 +260,7 @@ module _ (d : ℕ) (v : Under) (inside : SoundUnder d v) where
         | inr a ↦ absurd (let e = a.1 in cc)
       ]
 
-  signal_covers : (i : Input) → is_word ww.Signal (ahead i) ≡ true → (x : Member) (j : Input) → signal_member i ≡ Ok (x, j) → Covers (IsShortMember d) i j x
+  signal_covers : (i : Input) → is_word ww.Signal (ahead i) ≡ true → (x : Member) (j : Input) → signal_member i ≡ Ok (x, j) → Covers (IsShortMember 200 d) i j x
   unfolding signal_member
   signal_covers i h x j r =
       let t = ahead_some (is_word ww.Signal) refl i h in
@@ -276,7 +276,7 @@ module _ (d : ℕ) (v : Under) (inside : SoundUnder d v) where
 
   -- Members of paths
 
-  handled_covers : (i k : Input) (p : Path) (q : PathRead i k p) (o : Token) (l : Input) → Way k l 0 (o ∷ []) → IsMark o Colon → is_handler_path p ≡ true → (x : Member) (j : Input) → handled d p (place i) l ≡ Ok (x, j) → Covers (IsShortMember d) i j x
+  handled_covers : (i k : Input) (p : Path) (q : PathRead i k p) (o : Token) (l : Input) → Way k l 0 (o ∷ []) → IsMark o Colon → is_handler_path p ≡ true → (x : Member) (j : Input) → handled d p (place i) l ≡ Ok (x, j) → Covers (IsShortMember 200 d) i j x
   unfolding handled
   handled_covers i k p q o l w colon handler x j h =
       let a = bind_ok (statement d l) _ _ h in
@@ -287,7 +287,7 @@ module _ (d : ℕ) (v : Under) (inside : SoundUnder d v) where
         spelled = a_handled q.token q.others o c.text p a.value refl (ap (λ s. mm.Handler p a.value s) (placed q.way)) q.spelled handler colon c.spelled;
       }) a.onward
 
-  initialised_covers : (i k : Input) (p : Path) (q : PathRead i k p) (o : Token) (l : Input) → Way k l 0 (o ∷ []) → IsMark o Colon → is_handler_path p ≡ false → (x : Member) (j : Input) → initialised d v p (place i) l ≡ Ok (x, j) → Covers (IsShortMember d) i j x
+  initialised_covers : (i k : Input) (p : Path) (q : PathRead i k p) (o : Token) (l : Input) → Way k l 0 (o ∷ []) → IsMark o Colon → is_handler_path p ≡ false → (x : Member) (j : Input) → initialised d v p (place i) l ≡ Ok (x, j) → Covers (IsShortMember 200 d) i j x
   unfolding initialised
   initialised_covers i k p q o l w colon plain x j h =
       let a = bind_ok (value_in d v l) _ _ h in
@@ -299,7 +299,7 @@ module _ (d : ℕ) (v : Under) (inside : SoundUnder d v) where
         spelled = an_initialised q.token q.others o c.text p y.init y.span refl (ap (λ s. mm.Init p y.init y.span s) (placed q.way)) q.spelled plain colon c.spelled;
       }) a.onward
 
-  path_covers : (i : Input) → is_own_word (ahead i) ≡ false → (x : Member) (j : Input) → path_member d v i ≡ Ok (x, j) → Covers (IsShortMember d) i j x
+  path_covers : (i : Input) → is_own_word (ahead i) ≡ false → (x : Member) (j : Input) → path_member d v i ≡ Ok (x, j) → Covers (IsShortMember 200 d) i j x
   unfolding path_member behind_path
   path_covers i own x j h =
       let a = bind_ok (path i) _ _ h in
@@ -315,22 +315,22 @@ module _ (d : ℕ) (v : Under) (inside : SoundUnder d v) where
 
   -- a member that is a list of its own
   abbrev IsAlone : List Token → Option Token → Member → Type 0
-  IsAlone ts next x = IsMember d ts next (x ∷ [])
+  IsAlone ts next x = IsMember 200 d ts next (x ∷ [])
 
-  alone_covers : (p : Parser Member) (i : Input) → ((x : Member) (j : Input) → p i ≡ Ok (x, j) → Covers IsAlone i j x) → (xs : List Member) (j : Input) → alone p i ≡ Ok (xs, j) → Covers (IsMember d) i j xs
+  alone_covers : (p : Parser Member) (i : Input) → ((x : Member) (j : Input) → p i ≡ Ok (x, j) → Covers IsAlone i j x) → (xs : List Member) (j : Input) → alone p i ≡ Ok (xs, j) → Covers (IsMember 200 d) i j xs
   unfolding alone
   alone_covers p i sound xs j h =
       let a = bind_ok (p i) _ _ h in
       let c = sound a.value a.at a.first in
       covers_to (record { text = c.text; way = c.way; spelled = c.spelled }) a.onward
 
-  short_alone : (p : Parser Member) (i : Input) → ((x : Member) (j : Input) → p i ≡ Ok (x, j) → Covers (IsShortMember d) i j x) → (x : Member) (j : Input) → ended p i ≡ Ok (x, j) → Covers IsAlone i j x
+  short_alone : (p : Parser Member) (i : Input) → ((x : Member) (j : Input) → p i ≡ Ok (x, j) → Covers (IsShortMember 200 d) i j x) → (x : Member) (j : Input) → ended p i ≡ Ok (x, j) → Covers IsAlone i j x
   short_alone p i sound x j h =
-      let c = ended_covers p (IsShortMember d) i sound x j h in
+      let c = ended_covers p (IsShortMember 200 d) i sound x j h in
       let e = c.spelled in
       record { text = c.text; way = c.way; spelled = short e.text e.end x e.both refl e.spelled e.ends }
 
-  short_covers : (p : Parser Member) (i : Input) → ((x : Member) (j : Input) → p i ≡ Ok (x, j) → Covers (IsShortMember d) i j x) → (xs : List Member) (j : Input) → alone (ended p) i ≡ Ok (xs, j) → Covers (IsMember d) i j xs
+  short_covers : (p : Parser Member) (i : Input) → ((x : Member) (j : Input) → p i ≡ Ok (x, j) → Covers (IsShortMember 200 d) i j x) → (xs : List Member) (j : Input) → alone (ended p) i ≡ Ok (xs, j) → Covers (IsMember 200 d) i j xs
   short_covers p i sound = alone_covers (ended p) i (short_alone p i sound)
 
   block_covers : (i : Input) (xs : List Stmt) (j : Input) → method_block d i ≡ Ok (xs, j) → Covers (IsBlockBefore d) i j xs
@@ -356,14 +356,14 @@ module _ (d : ℕ) (v : Under) (inside : SoundUnder d v) where
         spelled = a_method t.token u.token ps.text ys.text a.value b.value c.value refl (ap (λ s. mm.Method a.value b.value c.value s ∷ []) (placed u.way)) t.is u.is ps.spelled ys.spelled;
       }) c.onward
 
-  child_covers : (i : Input) (xs : List Member) (j : Input) → child v i ≡ Ok (xs, j) → Covers (IsMember d) i j xs
+  child_covers : (i : Input) (xs : List Member) (j : Input) → child v i ≡ Ok (xs, j) → Covers (IsMember 200 d) i j xs
   unfolding child
   child_covers i xs j h =
       let a = bind_ok (object_in v i) _ _ h in
       let c = object_covers i a.value a.at a.first in
       covers_to (record { text = c.text; way = c.way; spelled = a_child a.value refl c.spelled }) a.onward
 
-  group_covers : (i : Input) (xs : List Member) (j : Input) → is_own_word (ahead i) ≡ false → begins_group i.rest ≡ true → grouped v i ≡ Ok (xs, j) → Covers (IsMember d) i j xs
+  group_covers : (i : Input) (xs : List Member) (j : Input) → is_own_word (ahead i) ≡ false → begins_group i.rest ≡ true → grouped v i ≡ Ok (xs, j) → Covers (IsMember 200 d) i j xs
   unfolding grouped
   group_covers i xs j own h r =
       let a = bind_ok (any_name i) _ _ r in
@@ -380,7 +380,7 @@ module _ (d : ℕ) (v : Under) (inside : SoundUnder d v) where
         spelled = a_group b.less t.token b.begin b.text b.close a.value b.one_less refl (sym (first_is is_own_word w) ∙ own) t.is (ap lower_first (sym same) ∙ low.2) b.begins b.spelled b.closes;
       }
 
-  named_covers : (i : Input) (xs : List Member) (j : Input) → is_own_word (ahead i) ≡ false → named_member d v i ≡ Ok (xs, j) → Covers (IsMember d) i j xs
+  named_covers : (i : Input) (xs : List Member) (j : Input) → is_own_word (ahead i) ≡ false → named_member d v i ≡ Ok (xs, j) → Covers (IsMember 200 d) i j xs
   unfolding named_member
   named_covers i xs j own h = elim (if_ok (begins_object i.rest) _ _ _ h) [
     | inl a ↦ child_covers i xs j a.1
@@ -396,7 +396,7 @@ module _ (d : ℕ) (v : Under) (inside : SoundUnder d v) where
     ]
   ]
 
-  pub member_covers : (i : Input) (xs : List Member) (j : Input) → member_in d v i ≡ Ok (xs, j) → Covers (IsMember d) i j xs
+  pub member_covers : (i : Input) (xs : List Member) (j : Input) → member_in d v i ≡ Ok (xs, j) → Covers (IsMember 200 d) i j xs
   unfolding member_in other_member
   member_covers i xs j h = elim (if_ok (is_word ww.Id (ahead i)) _ _ _ h) [
     | inl a ↦ short_covers id_member i (id_covers i a.0) xs j a.1
@@ -423,7 +423,7 @@ module _ (d : ℕ) (v : Under) (inside : SoundUnder d v) where
 
   -- Entries of groups
 
-  entry_covers : (n : List ℕ) (i : Input) (x : Member) (j : Input) → entry d v n i ≡ Ok (x, j) → Covers (IsEntry d n) i j x
+  entry_covers : (n : List ℕ) (i : Input) (x : Member) (j : Input) → entry d v n i ≡ Ok (x, j) → Covers (IsEntry 200 d n) i j x
   unfolding entry
   entry_covers n i x j h =
       let a = bind_ok (entry_name i) _ _ h in
@@ -444,7 +444,7 @@ module _ (d : ℕ) (v : Under) (inside : SoundUnder d v) where
   unfolding one_entry
   entry_added n xs i ys j t h =
       let a = bind_ok (ended (entry d v n) i) _ _ h in
-      let c = ended_covers (entry d v n) (IsEntry d n) i (entry_covers n i) a.value a.at a.first in
+      let c = ended_covers (entry d v n) (IsEntry 200 d n) i (entry_covers n i) a.value a.at a.first in
       let e = c.spelled in
       let covers : Covers (AnEntry d n) i a.at (a.value ∷ []) = record { text = c.text; way = c.way; spelled = ended_entry e.text e.end a.value e.both refl e.spelled e.ends } in
       record {
@@ -457,23 +457,23 @@ module _ (d : ℕ) (v : Under) (inside : SoundUnder d v) where
   unfolding entries
   entries_closed n = until_brace_closed (AnEntry d n) (one_entry d v n) (entry_begins d n) (entry_added n)
 
-  member_added : (xs : List Member) (i : Input) (ys : List Member) (j : Input) → goes_on_inside (ahead i) ≡ true → one_member d v xs i ≡ Ok (ys, j) → Added (IsMember d) xs i ys j
+  member_added : (xs : List Member) (i : Input) (ys : List Member) (j : Input) → goes_on_inside (ahead i) ≡ true → one_member d v xs i ≡ Ok (ys, j) → Added (IsMember 200 d) xs i ys j
   unfolding one_member
   member_added xs i ys j t h =
       let a = bind_ok (member_in d v i) _ _ h in
       record {
         values = a.value;
         both = sym (same_value (xs ++ a.value) ys a.at j a.onward);
-        covers = subst (λ k. Covers (IsMember d) i k a.value) (same_input (xs ++ a.value) ys a.at j a.onward) (member_covers i a.value a.at a.first);
+        covers = subst (λ k. Covers (IsMember 200 d) i k a.value) (same_input (xs ++ a.value) ys a.at j a.onward) (member_covers i a.value a.at a.first);
       }
 
-  pub members_closed : (i : Input) (xs : List Member) (j : Input) → members d v i ≡ Ok (xs, j) → Closed (IsMember d) i j xs
+  pub members_closed : (i : Input) (xs : List Member) (j : Input) → members d v i ≡ Ok (xs, j) → Closed (IsMember 200 d) i j xs
   unfolding members
-  members_closed = until_brace_closed (IsMember d) (one_member d v) (member_begins d) member_added
+  members_closed = until_brace_closed (IsMember 200 d) (one_member d v) (member_begins d) member_added
 
 -- All levels
 
-members_braced : (d : ℕ) → SoundUnder d (under d) → (i : Input) (xs : List Member) (j : Input) → is_mark OpenBrace (ahead i) ≡ true → member_braces d (under d) i ≡ Ok (xs, j) → Braced AreMembers (suc d) i j xs
+members_braced : (d : ℕ) → SoundUnder d (under d) → (i : Input) (xs : List Member) (j : Input) → is_mark OpenBrace (ahead i) ≡ true → member_braces d (under d) i ≡ Ok (xs, j) → Braced (AreMembers 200) (suc d) i j xs
 unfolding member_braces
 members_braced d inside i xs j t h =
     let o = ahead_some (is_mark OpenBrace) refl i t in
@@ -512,7 +512,7 @@ root_is i x j h = elim (if_ok (is_dotted_type (is_mark OpenBrace) i.rest) _ _ _ 
   | inr a ↦ a.1
 ]
 
-document_of : (ts : List Token) (k l : Input) (xs : List Import) (z : Decl) (us vs : List Token) → ts ≡ us ++ k.rest → AreImports us (ahead k) xs → Way k l 0 vs → IsObject 64 vs z → l.rest ≡ [] → IsDocument ts (record { imports = xs; root = z })
+document_of : (ts : List Token) (k l : Input) (xs : List Import) (z : Decl) (us vs : List Token) → ts ≡ us ++ k.rest → AreImports us (ahead k) xs → Way k l 0 vs → IsObject 200 64 vs z → l.rest ≡ [] → IsDocument ts (record { imports = xs; root = z })
 document_of ts k l xs z us vs ts_is first w spelled end =
     let rest : k.rest ≡ vs = w.rest ∙ (ap (λ ws. vs ++ ws) end ∙ append-nil vs) in
     let next : ahead k ≡ follow vs None = ahead_follow w ∙ ap (λ ws. follow vs (head ws)) end in

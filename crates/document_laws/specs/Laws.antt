@@ -7,8 +7,8 @@ use Rattle.qml_grammar.specs.Lexemes.{Token}
 
 -- a value with its place
 abbrev pub IsValued : ℕ → List Token → Option Token → Valued → Type 0
-IsValued d ts next x = IsValue d ts next x.init x.span
+IsValued d ts next x = IsValue 200 d ts next x.init x.span
 
 -- an object, whatever follows it
 abbrev pub IsObjectBefore : ℕ → List Token → Option Token → Decl → Type 0
-IsObjectBefore d ts next x = IsObject d ts x
+IsObjectBefore d ts next x = IsObject 200 d ts x

@@ -21,7 +21,7 @@ ghost use Rattle.statement_laws.specs.Laws.{Covers};
 pub fn reads_spelled()
     ensures values { (d : ℕ) (i j : Input) (x : Valued) → value_in d (under d) i ≡ Ok (x, j) → Covers (IsValued d) i j x }
     ensures objects { (d : ℕ) (i j : Input) (x : Decl) → object_in (under d) i ≡ Ok (x, j) → Covers (IsObjectBefore d) i j x }
-    ensures members { (d : ℕ) (i j : Input) (xs : List Member) → member_in d (under d) i ≡ Ok (xs, j) → Covers (IsMember d) i j xs }
+    ensures members { (d : ℕ) (i j : Input) (xs : List Member) → member_in d (under d) i ≡ Ok (xs, j) → Covers (IsMember 200 d) i j xs }
     ensures imports { (i j : Input) (xs : List Import) → imports i ≡ Ok (xs, j) → Covers AreImports i j xs × (is_word AsImport (ahead j) ≡ false) }
     ensures documents { (ts : List Token) (end : Span) (x : Document) → reading ts end ≡ Ok x → IsDocument ts x }
 {}
@@ -31,7 +31,7 @@ pub fn reads_spelled()
 pub fn spelled_read()
     ensures values { (d : ℕ) (i j : Input) (x : Valued) → Covers (IsValued d) i j x → value_in d (under d) i ≡ Ok (x, j) }
     ensures objects { (d : ℕ) (i j : Input) (x : Decl) → Covers (IsObjectBefore d) i j x → object_in (under d) i ≡ Ok (x, j) }
-    ensures members { (d : ℕ) (i j : Input) (xs : List Member) → Covers (IsMember d) i j xs → member_in d (under d) i ≡ Ok (xs, j) }
+    ensures members { (d : ℕ) (i j : Input) (xs : List Member) → Covers (IsMember 200 d) i j xs → member_in d (under d) i ≡ Ok (xs, j) }
     ensures imports { (i j : Input) (xs : List Import) → Covers AreImports i j xs → is_word AsImport (ahead j) ≡ false → imports i ≡ Ok (xs, j) }
     ensures documents { (ts : List Token) (end : Span) (x : Document) → IsDocument ts x → reading ts end ≡ Ok x }
     ensures once { (ts : List Token) (x y : Document) → IsDocument ts x → IsDocument ts y → x ≡ y }

@@ -24,4 +24,4 @@ pub record Reads (d : ℕ) (i j : Input) (x : Expr) : Type 0 where
 pub record ReadsWhole (d : ℕ) (i j : Input) (x : Expr) : Type 0 where
   pub text : List Token
   pub way : Way i j 0 text
-  pub spelled : IsWhole d text (ahead j) x
+  pub spelled : IsWhole 200 d text (ahead j) x

@@ -42,9 +42,9 @@ paren_stops at = record { goes = refl; unset = refl; unchanged = λ last. refl }
 
 -- the canonical text of an outermost expression spells it before each token that does not go on with it
 abbrev pub Whole : ℕ → Expr → Type 0
-Whole d x = Spelling (expr_text x) (λ e ts. (next : Option Token) → goes_on next ≡ false → IsWhole e ts next x) d
+Whole d x = Spelling (expr_text x) (λ e ts. (next : Option Token) → goes_on next ≡ false → IsWhole 200 e ts next x) d
 
-pub whole_prints : {d : ℕ} {ts : List Token} {next : Option Token} {x : Expr} → IsWhole d ts next x → AreLawfulTokens ts → Whole d x
+pub whole_prints : {d : ℕ} {ts : List Token} {next : Option Token} {x : Expr} → IsWhole 200 d ts next x → AreLawfulTokens ts → Whole d x
 whole_prints {d = d} {ts = ts} {x = x} w law =
     let p = expr_spelling d w.nodes ts x w.spelled law in
     record {
@@ -174,7 +174,7 @@ stepping false = record { sign = DoubleMinus; is = refl; written = refl }
 
 -- what a change is
 abbrev pub IsChangeTo : Stmt → ℕ → List Token → Option Token → Type 0
-IsChangeTo x e ts next = IsChange e ts next x
+IsChangeTo x e ts next = IsChange 200 e ts next x
 
 assign_prints : (d k : ℕ) (y : Expr) (op : AssignOp) (z : Expr) → Target k y → k ≤ 200 → Assigning op → Whole d z → Bared (IsChangeTo (Assign y op z)) d (Assign y op z)
 assign_prints d k y op z t few o w =
@@ -215,7 +215,7 @@ step_prints d k y up t few o =
       spelled = λ e at next le stops. step k (placed at p.pieces) (record { lexeme = mark o.sign; span = past_all at p.pieces }) y up (placed_append at p.pieces (token (mark o.sign) ∷ [])) refl (p.spelled e at (omega arith)) few o.is (step_line at (mark o.sign) p.run);
     }
 
-pub change_prints : {d : ℕ} {ts : List Token} {next : Option Token} {x : Stmt} → IsChange d ts next x → AreLawfulTokens ts → Bared (IsChangeTo x) d x
+pub change_prints : {d : ℕ} {ts : List Token} {next : Option Token} {x : Stmt} → IsChange 200 d ts next x → AreLawfulTokens ts → Bared (IsChangeTo x) d x
 change_prints {d = d} (assign k us o vs y op z ts_is x_is p few is q) law =
     let laws : AreLawfulTokens (us ++ o ∷ vs) = lawful_as ts_is law in
     rw x_is (assign_prints d k y op z (target_prints p (lawful_left us (o ∷ vs) laws)) few (assigning o.lexeme op is) (whole_prints q (lawful_right us (o ∷ vs) laws).1))

@@ -73,4 +73,4 @@ pub record StmtSpelling (d levels : ℕ) (next : Option Token) (x : Stmt) : Type
   pub last : Lexeme
   pub run : Run first last pieces
   pub text_is : pieces_text pieces ≡ stmt_text x levels
-  pub spelled : (e : ℕ) (at : Span) (after : Option Token) → d ≤ e → is_word Else after ≡ is_word Else next → IsStmt e (placed at pieces) after x
+  pub spelled : (e : ℕ) (at : Span) (after : Option Token) → d ≤ e → is_word Else after ≡ is_word Else next → IsStmt 200 e (placed at pieces) after x

@@ -58,7 +58,7 @@ pub record Divided (ys : List Import) (x : Decl) (first : Lexeme) (at : Span) (t
   pub text : ts ≡ front ++ back
   pub starts : follow front (follow back None) ≡ Some (record { lexeme = first; span = at })
   pub imports : Other (map import_apart) ys (AreImports front (follow back None))
-  pub root : Other decl_apart x (IsObject 64 back)
+  pub root : Other decl_apart x (IsObject 200 64 back)
 
 -- the pieces of imports and an object, without the last line end
 pub record Dividing (ys : List Import) (x : Decl) : Type 0 where

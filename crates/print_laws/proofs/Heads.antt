@@ -26,7 +26,7 @@ pub record Headed (text : List ℕ) (Is : ℕ → List Token → Type 0) (d : �
 
 -- Conditions
 
-pub condition_prints : {d : ℕ} {ts : List Token} {x : Expr} → IsCondition d ts x → AreLawfulTokens ts → Headed (codes "(" ++ (expr_text x ++ codes ")")) (λ e us. IsCondition e us x) d
+pub condition_prints : {d : ℕ} {ts : List Token} {x : Expr} → IsCondition 200 d ts x → AreLawfulTokens ts → Headed (codes "(" ++ (expr_text x ++ codes ")")) (λ e us. IsCondition 200 e us x) d
 unfolding same_mark mark_number
 condition_prints {d = d} {x = x} (parens o us z ts_is open_is p close_is) law =
     let q = whole_prints p (lawful_left us (z ∷ []) (lawful_as ts_is law).1) in
@@ -82,24 +82,24 @@ abbrev pub bare_text : Stmt → List ℕ
 bare_text s = (stmt_lined s).bare
 
 abbrev pub IsSimpleIn : Option Stmt → ℕ → List Token → Option Token → Type 0
-IsSimpleIn x e ts next = IsMaybeSimple e ts next x
+IsSimpleIn x e ts next = IsMaybeSimple 200 e ts next x
 
 abbrev pub IsWholeIn : Option Expr → ℕ → List Token → Option Token → Type 0
-IsWholeIn x e ts next = IsMaybeWhole e ts next x
+IsWholeIn x e ts next = IsMaybeWhole 200 e ts next x
 
-first_filled : {d : ℕ} {ts : List Token} {next : Option Token} {x : Option Stmt} → IsMaybeSimple d ts next x → AreLawfulTokens ts → Filling (maybe_text [] bare_text x) (IsSimpleIn x) d
+first_filled : {d : ℕ} {ts : List Token} {next : Option Token} {x : Option Stmt} → IsMaybeSimple 200 d ts next x → AreLawfulTokens ts → Filling (maybe_text [] bare_text x) (IsSimpleIn x) d
 first_filled {d = d} (no_simple ts_is x_is) law = rw x_is (nothing_filled d (IsSimpleIn None) (λ e next. no_simple refl refl))
 first_filled {d = d} (a_simple y x_is p) law =
     let b = simple_prints p law in
     rw x_is (touching_filled d (bare_text y) (IsSimpleIn (Some y)) b.run (b.text_is ∙ ap (λ (l : Lined). l.bare) (sym b.lined)) (λ e at next le stops. a_simple y refl (b.spelled e at next le stops)))
 
-last_filled : {d : ℕ} {ts : List Token} {next : Option Token} {x : Option Stmt} → IsMaybeSimple d ts next x → AreLawfulTokens ts → Filling (maybe_text (codes " ") bare_text x) (IsSimpleIn x) d
+last_filled : {d : ℕ} {ts : List Token} {next : Option Token} {x : Option Stmt} → IsMaybeSimple 200 d ts next x → AreLawfulTokens ts → Filling (maybe_text (codes " ") bare_text x) (IsSimpleIn x) d
 last_filled {d = d} (no_simple ts_is x_is) law = rw x_is (nothing_filled d (IsSimpleIn None) (λ e next. no_simple refl refl))
 last_filled {d = d} (a_simple y x_is p) law =
     let b = simple_prints p law in
     rw x_is (spaced_filled d (bare_text y) (IsSimpleIn (Some y)) b.run (b.text_is ∙ ap (λ (l : Lined). l.bare) (sym b.lined)) (λ e at next le stops. a_simple y refl (b.spelled e at next le stops)))
 
-test_filled : {d : ℕ} {ts : List Token} {next : Option Token} {x : Option Expr} → IsMaybeWhole d ts next x → AreLawfulTokens ts → Filling (maybe_text (codes " ") expr_text x) (IsWholeIn x) d
+test_filled : {d : ℕ} {ts : List Token} {next : Option Token} {x : Option Expr} → IsMaybeWhole 200 d ts next x → AreLawfulTokens ts → Filling (maybe_text (codes " ") expr_text x) (IsWholeIn x) d
 test_filled {d = d} (no_whole ts_is x_is) law = rw x_is (nothing_filled d (IsWholeIn None) (λ e next. no_whole refl refl))
 test_filled {d = d} (a_whole y x_is p) law =
     let q = whole_prints p law in
@@ -134,9 +134,9 @@ put_behind ls bs x y cs h = ap (λ ds. ds ++ cs ++ y ∷ []) h ∙ ap (λ ds. ds
 placed_part : (at : Span) (ps qs : List Piece) (m : Mark) → placed at (ps ++ qs ++ token (mark m) ∷ []) ≡ placed at ps ++ placed (past_all at ps) qs ++ record { lexeme = mark m; span = past_all at (ps ++ qs) } ∷ []
 placed_part at ps qs m = placed_append at (ps ++ qs) (token (mark m) ∷ []) ∙ ap (λ ts. ts ++ record { lexeme = mark m; span = past_all at (ps ++ qs) } ∷ []) (placed_append at ps qs)
 
-parts_spelled : (e : ℕ) (a : Option Stmt) (x : Option Expr) (b : Option Stmt) (ps qs rs : List Piece) (at : Span) → ((here : Span) (next : Option Token) → Stops next → IsMaybeSimple e (placed here ps) next a) →
-    ((here : Span) (next : Option Token) → Stops next → IsMaybeWhole e (placed here qs) next x) → ((here : Span) (next : Option Token) → Stops next → IsMaybeSimple e (placed here rs) next b) →
-    AreParts e (placed at (parts_pieces ps qs rs)) a x b
+parts_spelled : (e : ℕ) (a : Option Stmt) (x : Option Expr) (b : Option Stmt) (ps qs rs : List Piece) (at : Span) → ((here : Span) (next : Option Token) → Stops next → IsMaybeSimple 200 e (placed here ps) next a) →
+    ((here : Span) (next : Option Token) → Stops next → IsMaybeWhole 200 e (placed here qs) next x) → ((here : Span) (next : Option Token) → Stops next → IsMaybeSimple 200 e (placed here rs) next b) →
+    AreParts 200 e (placed at (parts_pieces ps qs rs)) a x b
 unfolding parts_pieces same_mark mark_number
 parts_spelled e a x b ps qs rs at first test last =
     let one : List Piece = (token (mark OpenParen) ∷ []) ++ ps ++ token (mark Semicolon) ∷ [] in
@@ -154,7 +154,7 @@ parts_spelled e a x b ps qs rs at first test last =
     let all : placed at (two ++ rs ++ token (mark CloseParen) ∷ []) ≡ (((o ∷ us) ++ p ∷ vs) ++ q ∷ ws) ++ z ∷ [] = placed_part at two rs CloseParen ∙ put_behind (placed at two) ((o ∷ us) ++ p ∷ vs) q z ws twos in
     parts o us p vs q ws z all refl (first inside (Some p) (semicolon_stops p.span)) refl (test (past_all at one) (Some q) (semicolon_stops q.span)) refl (last (past_all at two) (Some z) (paren_stops z.span)) refl
 
-pub parts_print : {d : ℕ} {ts : List Token} {a : Option Stmt} {x : Option Expr} {b : Option Stmt} → AreParts d ts a x b → AreLawfulTokens ts → Headed (parts_text a x b) (λ e us. AreParts e us a x b) d
+pub parts_print : {d : ℕ} {ts : List Token} {a : Option Stmt} {x : Option Expr} {b : Option Stmt} → AreParts 200 d ts a x b → AreLawfulTokens ts → Headed (parts_text a x b) (λ e us. AreParts 200 e us a x b) d
 unfolding parts_pieces same_mark mark_number
 parts_print {d = d} {a = a} {x = x} {b = b} (parts o us p vs q ws z ts_is open_is first first_end test test_end last close_is) law =
     let laws : AreLawfulTokens (o ∷ us ++ p ∷ vs ++ q ∷ ws) = lawful_left (o ∷ us ++ p ∷ vs ++ q ∷ ws) (z ∷ []) (lawful_as ts_is law) in

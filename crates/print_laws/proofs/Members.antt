@@ -25,8 +25,8 @@ use Rattle.qml_grammar.specs.declared.word.Word.TheVariants as ww
 
 -- what tokens of values and members with so many levels spell has canonical texts
 pub record PrintsAt (d : ℕ) : Type 0 where
-  pub values : (ts : List Token) (next : Option Token) (x : Init) (at : Span) (levels : ℕ) → IsValue d ts next x at → AreLawfulTokens ts → ValueSpelling d levels x
-  pub members : (ts : List Token) (z : Token) (xs : List Member) (levels : ℕ) → AreMembers d ts (Some z) xs → IsMark z CloseBrace → AreLawfulTokens ts → MemberSpellings d levels xs
+  pub values : (ts : List Token) (next : Option Token) (x : Init) (at : Span) (levels : ℕ) → IsValue 200 d ts next x at → AreLawfulTokens ts → ValueSpelling d levels x
+  pub members : (ts : List Token) (z : Token) (xs : List Member) (levels : ℕ) → AreMembers 200 d ts (Some z) xs → IsMark z CloseBrace → AreLawfulTokens ts → MemberSpellings d levels xs
 
 -- an entry of a group as an initialiser
 entry_spelling : (d levels : ℕ) (l r : Lexeme) (n m : List ℕ) (x : Init) (a b : Span) → ((at : Span) → is_own_word (Some (record { lexeme = l; span = at })) ≡ false) → IsLawfulLexeme l → IsLawfulLexeme r →
@@ -35,20 +35,20 @@ entry_spelling d levels l r n m x a b own law_l law_r h k no_handler v =
     member_of_short (init_spelling d levels (record { first = n; second = Some m }) x a b no_handler (two_path l r n m own law_l law_r h k (λ ts t o u ts_is t_own t_is dot u_is. two t o u n m ts_is refl t_own t_is dot u_is (inl no_handler))) v)
 
 module _ (d : ℕ) (deeper : (c : ℕ) → d ≡ suc c → PrintsAt c) where
-  pub object_prints : {ts : List Token} {x : Decl} (levels : ℕ) → IsObject d ts x → AreLawfulTokens ts → ObjectSpelling d levels x
+  pub object_prints : {ts : List Token} {x : Decl} (levels : ℕ) → IsObject 200 d ts x → AreLawfulTokens ts → ObjectSpelling d levels x
   object_prints levels (object c t o us z n xs d_is ts_is x_is is upper open_is are close_is) law =
       let laws : AreLawfulTokens (t ∷ o ∷ us ++ z ∷ []) = lawful_as ts_is law in
       rw x_is (object_of c d levels t.lexeme n xs t.span d_is laws.0 is upper (members_tail c levels xs ((deeper c d_is).members us z xs (suc levels) are close_is (lawful_left us (z ∷ []) laws.1.1))))
 
-  value_prints : {ts : List Token} {next : Option Token} {x : Init} {at : Span} (levels : ℕ) → IsValue d ts next x at → AreLawfulTokens ts → ValueSpelling d levels x
+  value_prints : {ts : List Token} {next : Option Token} {x : Init} {at : Span} (levels : ℕ) → IsValue 200 d ts next x at → AreLawfulTokens ts → ValueSpelling d levels x
   value_prints levels (an_expr t us y ts_is x_is at_is p no_type) law = rw x_is (expr_value d levels y (whole_prints p law))
   value_prints levels (value_object t us y ts_is x_is at_is p) law = rw x_is (object_value d levels y (object_prints levels p law))
 
-  maybe_value_prints : {ts : List Token} {next : Option Token} {x : Option Init} {at there : Span} (levels : ℕ) → IsMaybeValue d ts next x at there → AreLawfulTokens ts → MaybeValueSpelling d levels x
+  maybe_value_prints : {ts : List Token} {next : Option Token} {x : Option Init} {at there : Span} (levels : ℕ) → IsMaybeValue 200 d ts next x at there → AreLawfulTokens ts → MaybeValueSpelling d levels x
   maybe_value_prints levels (no_value ts_is x_is at_is no_colon) law = rw x_is (no_value_spelling d levels)
   maybe_value_prints levels (a_value o us y ts_is x_is colon p) law = rw x_is (a_value_spelling d levels y (value_prints levels p (lawful_as ts_is law).1))
 
-  short_member_prints : {ts : List Token} {next : Option Token} {x : Member} (levels : ℕ) → IsShortMember d ts next x → is_word ww.Else next ≡ false → AreLawfulTokens ts → ShortMemberSpelling d levels x
+  short_member_prints : {ts : List Token} {next : Option Token} {x : Member} (levels : ℕ) → IsShortMember 200 d ts next x → is_word ww.Else next ≡ false → AreLawfulTokens ts → ShortMemberSpelling d levels x
   short_member_prints levels (id t o u n ts_is x_is is colon name_is) no_else law =
       rw x_is (id_spelling d levels u.lexeme n u.span (lawful_as ts_is law).1.1.0 name_is)
   short_member_prints levels (property t u v us k n y at ts_is x_is is kind no_alias name_is value) no_else law =
@@ -67,20 +67,20 @@ module _ (d : ℕ) (deeper : (c : ℕ) → d ≡ suc c → PrintsAt c) where
       let laws : AreLawfulTokens (t ∷ us ++ o ∷ vs) = lawful_as ts_is law in
       rw x_is (handler_spelling d levels p y t.span next handler no_else (path_prints path (lawful_left (t ∷ us) (o ∷ vs) laws)) (stmts_print d vs next y levels body (lawful_right (t ∷ us) (o ∷ vs) laws).1))
 
-  entry_prints : {c : ℕ} {n : List ℕ} {ts : List Token} {next : Option Token} {x : Member} (levels : ℕ) (l : Lexeme) → PrintsAt c → c ≤ d → IsEntry c n ts next x →
+  entry_prints : {c : ℕ} {n : List ℕ} {ts : List Token} {next : Option Token} {x : Member} (levels : ℕ) (l : Lexeme) → PrintsAt c → c ≤ d → IsEntry 200 c n ts next x →
       ((at : Span) → is_own_word (Some (record { lexeme = l; span = at })) ≡ false) → IsLawfulLexeme l → name_of_lexeme l ≡ Some n → AreLawfulTokens ts → MemberSpelling d levels x
   entry_prints {c = c} {n = n} {next = next} levels l inside le (entry t o us m y at ts_is x_is is no_handler colon value) own law_l named law =
       let laws : AreLawfulTokens (t ∷ o ∷ us) = lawful_as ts_is law in
       rw x_is (entry_spelling d levels l t.lexeme n m y at t.span own law_l laws.0 named is no_handler (value_within c d levels y le (inside.values us next y at levels value laws.1.1)))
 
-  entries_print : {c : ℕ} {n : List ℕ} {ts : List Token} {next : Option Token} {xs : List Member} (levels : ℕ) (l : Lexeme) → PrintsAt c → c ≤ d → AreEntries c n ts next xs →
+  entries_print : {c : ℕ} {n : List ℕ} {ts : List Token} {next : Option Token} {xs : List Member} (levels : ℕ) (l : Lexeme) → PrintsAt c → c ≤ d → AreEntries 200 c n ts next xs →
       ((at : Span) → is_own_word (Some (record { lexeme = l; span = at })) ≡ false) → IsLawfulLexeme l → name_of_lexeme l ≡ Some n → AreLawfulTokens ts → MemberSpellings d levels xs
   entries_print levels l inside le (no_entries ts_is xs_is) own law_l named law = rw xs_is tt
   entries_print levels l inside le (more_entries us es vs y ys ts_is xs_is p end q) own law_l named law =
       let laws : AreLawfulTokens (us ++ es ++ vs) = lawful_as ts_is law in
       rw xs_is (entry_prints levels l inside le p own law_l named (lawful_left us es (lawful_left (us ++ es) vs laws)), entries_print levels l inside le q own law_l named (lawful_right (us ++ es) vs laws))
 
-  member_prints : {ts : List Token} {next : Option Token} {xs : List Member} (levels : ℕ) → IsMember d ts next xs → is_word ww.Else next ≡ false → AreLawfulTokens ts → MemberSpellings d levels xs
+  member_prints : {ts : List Token} {next : Option Token} {xs : List Member} (levels : ℕ) → IsMember 200 d ts next xs → is_word ww.Else next ≡ false → AreLawfulTokens ts → MemberSpellings d levels xs
   member_prints levels (short us es x ts_is xs_is p end) no_else law =
       rw xs_is (member_of_short (short_member_prints levels p (end_no_else end no_else) (lawful_left us es (lawful_as ts_is law))), tt)
   member_prints levels (method t u us vs n ps ys ts_is xs_is is name_is params body) no_else law =
@@ -91,7 +91,7 @@ module _ (d : ℕ) (deeper : (c : ℕ) → d ≡ suc c → PrintsAt c) where
       entries_print levels t.lexeme (deeper c d_is) (omega arith) are (λ at. own) laws.0 is (lawful_left us (z ∷ []) laws.1.1)
   member_prints levels (child y xs_is p) no_else law = rw xs_is (child_spelling d levels y (object_prints levels p law), tt)
 
-  members_print : {ts : List Token} {next : Option Token} {xs : List Member} (levels : ℕ) (z : Token) → AreMembers d ts next xs → next ≡ Some z → IsMark z CloseBrace → AreLawfulTokens ts → MemberSpellings d levels xs
+  members_print : {ts : List Token} {next : Option Token} {xs : List Member} (levels : ℕ) (z : Token) → AreMembers 200 d ts next xs → next ≡ Some z → IsMark z CloseBrace → AreLawfulTokens ts → MemberSpellings d levels xs
   members_print levels z (no_members ts_is xs_is) next_is close_is law = rw xs_is tt
   members_print {next = next} levels z (more_members us vs ys zs ts_is xs_is p q) next_is close_is law =
       let laws : AreLawfulTokens (us ++ vs) = lawful_as ts_is law in
@@ -111,5 +111,5 @@ prints_at zero = prints_here zero (λ c e. absurd (no_level c e))
 prints_at (suc d) = prints_here (suc d) (λ c e. subst PrintsAt (one_less c d e) (prints_at d))
 
 -- the canonical text of an object that tokens of a text spell spells one like it, with no more levels
-pub object_spelling : (d levels : ℕ) (ts : List Token) (x : Decl) → IsObject d ts x → AreLawfulTokens ts → ObjectSpelling d levels x
+pub object_spelling : (d levels : ℕ) (ts : List Token) (x : Decl) → IsObject 200 d ts x → AreLawfulTokens ts → ObjectSpelling d levels x
 object_spelling d levels ts x p law = object_prints d (λ c e. prints_at c) levels p law

@@ -89,11 +89,11 @@ target_opens : {k : ℕ} {ts : List Token} {x : Expr} → IsTarget k ts x → Be
 target_opens (name t n k_is ts_is x_is is) = one_begins t [] ts_is (operand_no_else t.lexeme n is)
 target_opens (member i us o t y n k_is ts_is x_is p dot is) = begins_left us (o ∷ t ∷ []) ts_is (target_opens p)
 
-change_opens : {d : ℕ} {ts : List Token} {next : Option Token} {x : Stmt} → IsChange d ts next x → Begins no_else ts
+change_opens : {d : ℕ} {ts : List Token} {next : Option Token} {x : Stmt} → IsChange 200 d ts next x → Begins no_else ts
 change_opens (assign k us o vs y op z ts_is x_is p few is q) = begins_left us (o ∷ vs) ts_is (target_opens p)
 change_opens (step k us o y up ts_is x_is p few is line) = begins_left us (o ∷ []) ts_is (target_opens p)
 
-short_opens : {d : ℕ} {ts : List Token} {next : Option Token} {x : Stmt} → IsShort d ts next x → Begins no_else ts
+short_opens : {d : ℕ} {ts : List Token} {next : Option Token} {x : Stmt} → IsShort 200 d ts next x → Begins no_else ts
 unfolding same_word word_number
 short_opens (local t p w n ts_is x_is is name_is unset) = one_begins t (p ∷ []) ts_is (local_no_else t.lexeme w is)
 short_opens (local_set t p o us w n y ts_is x_is is name_is equals q) = one_begins t (p ∷ o ∷ us) ts_is (local_no_else t.lexeme w is)
@@ -102,10 +102,10 @@ short_opens (act y x_is p unchanged) = expr_opens (expr_begins p.spelled)
 short_opens (leave t ts_is x_is is) = word_begins ww.Return t [] ts_is is refl
 short_opens (leave_with t us y ts_is x_is is line p) = word_begins ww.Return t us ts_is is refl
 
-block_opens : {d : ℕ} {ts : List Token} {xs : List Stmt} → IsBlock d ts xs → Begins no_else ts
+block_opens : {d : ℕ} {ts : List Token} {xs : List Stmt} → IsBlock 200 d ts xs → Begins no_else ts
 block_opens (braces c o us z d_is ts_is open_is p close_is) = mark_begins OpenBrace o (us ++ z ∷ []) ts_is open_is
 
-pub stmt_opens : {d : ℕ} {ts : List Token} {next : Option Token} {x : Stmt} → IsStmt d ts next x → Begins no_else ts
+pub stmt_opens : {d : ℕ} {ts : List Token} {next : Option Token} {x : Stmt} → IsStmt 200 d ts next x → Begins no_else ts
 unfolding same_word word_number
 stmt_opens (short us es ts_is p end) = begins_left us es ts_is (short_opens p)
 stmt_opens (block xs x_is p) = block_opens p
@@ -115,6 +115,6 @@ stmt_opens (when_else c t us vs o ws y z w d_is ts_is x_is is test p else_is q) 
 stmt_opens (loop c t us vs y z d_is ts_is x_is is test p) = word_begins ww.While t (us ++ vs) ts_is is refl
 stmt_opens (count c t us vs a y b z d_is ts_is x_is is p q) = word_begins ww.For t (us ++ vs) ts_is is refl
 
-pub stmts_no_else : {d : ℕ} {ts : List Token} {next : Option Token} {xs : List Stmt} (z : Token) → IsMark z CloseBrace → AreStmts d ts next xs → is_word ww.Else (follow ts (Some z)) ≡ false
+pub stmts_no_else : {d : ℕ} {ts : List Token} {next : Option Token} {xs : List Stmt} (z : Token) → IsMark z CloseBrace → AreStmts 200 d ts next xs → is_word ww.Else (follow ts (Some z)) ≡ false
 stmts_no_else z close_is (none ts_is xs_is) = ap (λ ts. is_word ww.Else (follow ts (Some z))) ts_is ∙ mark_no_word CloseBrace ww.Else z.lexeme close_is
 stmts_no_else z close_is (more us vs y ys ts_is xs_is p q) = follow_no_else (Some z) (begins_left us vs ts_is (stmt_opens p))

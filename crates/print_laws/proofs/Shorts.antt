@@ -24,7 +24,7 @@ use Rattle.qml_grammar.specs.declared.word.Word.TheVariants as ww
 use Rattle.qml_grammar.proofs.LinedForms.{stmt-Local, stmt-Do, stmt-Empty, stmt-Return}
 
 abbrev pub IsShortOf : Stmt → ℕ → List Token → Option Token → Type 0
-IsShortOf x e ts next = IsShort e ts next x
+IsShortOf x e ts next = IsShort 200 e ts next x
 
 -- Locals
 
@@ -138,7 +138,7 @@ leave_with_prints d y p = record {
 
 -- All of them
 
-pub short_prints : {d : ℕ} {ts : List Token} {next : Option Token} {x : Stmt} → IsShort d ts next x → AreLawfulTokens ts → Bared (IsShortOf x) d x
+pub short_prints : {d : ℕ} {ts : List Token} {next : Option Token} {x : Stmt} → IsShort 200 d ts next x → AreLawfulTokens ts → Bared (IsShortOf x) d x
 short_prints {d = d} (local t p w n ts_is x_is is name_is unset) law =
     let laws : AreLawfulTokens (t ∷ p ∷ []) = lawful_as ts_is law in
     rw x_is (local_prints d t.lexeme p.lexeme w n laws.0 laws.1.0 (λ at. is) name_is)
@@ -183,7 +183,7 @@ empty_spelling d levels next = record {
 -- In the head of a `for`
 
 abbrev pub IsSimpleOf : Stmt → ℕ → List Token → Option Token → Type 0
-IsSimpleOf x e ts next = IsSimple e ts next x
+IsSimpleOf x e ts next = IsSimple 200 e ts next x
 
 simple_local_text : (ps : List Piece) (m : Lexeme) (n s : List ℕ) → lexeme_text m ≡ n → pieces_text ps ≡ s → pieces_text (token (word ww.Var) ∷ space ∷ token m ∷ space ∷ token (mark Equal) ∷ space ∷ ps) ≡ codes "var " ++ (n ++ (codes " = " ++ s))
 unfolding word_text
@@ -206,7 +206,7 @@ simple_local_prints d m n y law name_is p = record {
       simple_local (record { lexeme = word ww.Var; span = at }) (record { lexeme = m; span = second }) (record { lexeme = mark Equal; span = third }) (placed behind p.pieces) n y refl refl refl name_is refl (p.spelled e behind le next stops.goes);
 }
 
-pub simple_prints : {d : ℕ} {ts : List Token} {next : Option Token} {x : Stmt} → IsSimple d ts next x → AreLawfulTokens ts → Bared (IsSimpleOf x) d x
+pub simple_prints : {d : ℕ} {ts : List Token} {next : Option Token} {x : Stmt} → IsSimple 200 d ts next x → AreLawfulTokens ts → Bared (IsSimpleOf x) d x
 simple_prints {d = d} (simple_local t p o us n y ts_is x_is is name_is equals q) law =
     let laws : AreLawfulTokens (t ∷ p ∷ o ∷ us) = lawful_as ts_is law in
     rw x_is (simple_local_prints d p.lexeme n y laws.1.0 name_is (whole_prints q laws.1.1.1))

@@ -29,7 +29,7 @@ use Rattle.qml_grammar.proofs.LinedForms.{lined-Block, lined-If, lined-While, li
 -- Blocks
 
 abbrev pub AreStmtsOf : List Stmt → ℕ → List Token → Option Token → Type 0
-AreStmtsOf xs e ts next = AreStmts e ts next xs
+AreStmtsOf xs e ts next = AreStmts 200 e ts next xs
 
 -- the lines of statements
 abbrev pub StmtsTail : ℕ → ℕ → List Stmt → Type 0
@@ -37,14 +37,14 @@ StmtsTail d levels xs = Tail (lines_text levels (map stmt_text xs)) (AreStmtsOf 
 
 -- the statements with so many levels have canonical texts
 abbrev pub StmtsPrint : ℕ → Type 0
-StmtsPrint d = (ts : List Token) (next : Option Token) (x : Stmt) (levels : ℕ) → IsStmt d ts next x → AreLawfulTokens ts → StmtSpelling d levels next x
+StmtsPrint d = (ts : List Token) (next : Option Token) (x : Stmt) (levels : ℕ) → IsStmt 200 d ts next x → AreLawfulTokens ts → StmtSpelling d levels next x
 
 more_stmts : (d levels : ℕ) (next : Option Token) (y : Stmt) (ys : List Stmt) → is_word ww.Else next ≡ false → StmtSpelling d (suc levels) next y → StmtsTail d levels ys → StmtsTail d levels (y ∷ ys)
 more_stmts d levels next y ys no_else s t =
     more_tail d levels (stmt_text y) (map stmt_text ys) (AreStmtsOf ys) (AreStmtsOf (y ∷ ys)) s.run s.text_is t (λ e at us z place le close_is starts below are.
     more (placed at s.pieces) us y ys refl refl (s.spelled e at (follow us (Some z)) le (stmts_no_else z close_is are ∙ sym no_else)) are)
 
-pub stmts_tail : {d : ℕ} {ts : List Token} {next : Option Token} {xs : List Stmt} (z : Token) (levels : ℕ) → StmtsPrint d → AreStmts d ts next xs → next ≡ Some z → IsMark z CloseBrace → AreLawfulTokens ts → StmtsTail d levels xs
+pub stmts_tail : {d : ℕ} {ts : List Token} {next : Option Token} {xs : List Stmt} (z : Token) (levels : ℕ) → StmtsPrint d → AreStmts 200 d ts next xs → next ≡ Some z → IsMark z CloseBrace → AreLawfulTokens ts → StmtsTail d levels xs
 stmts_tail {d = d} z levels prints (none ts_is xs_is) next_is close_is law = rw xs_is (empty_tail d levels (AreStmtsOf []) (λ e after. none refl refl))
 stmts_tail {d = d} {next = next} z levels prints (more us vs y ys ts_is xs_is p q) next_is close_is law =
     let laws : AreLawfulTokens (us ++ vs) = lawful_as ts_is law in
@@ -56,9 +56,9 @@ pub record BlockSpelling (d levels : ℕ) (xs : List Stmt) : Type 0 where
   pub pieces : List Piece
   pub run : Run (mark OpenBrace) (mark CloseBrace) pieces
   pub text_is : pieces_text pieces ≡ braced (map stmt_text xs) levels
-  pub spelled : (e : ℕ) (at : Span) → d ≤ e → IsBlock e (placed at pieces) xs
+  pub spelled : (e : ℕ) (at : Span) → d ≤ e → IsBlock 200 e (placed at pieces) xs
 
-block_spelled : (c e : ℕ) (at : Span) (ps : List Piece) (first : Lexeme) (xs : List Stmt) → suc c ≤ e → Ended (AreStmtsOf xs (pred e)) first (past at (token (mark OpenBrace))) (placed (past at (token (mark OpenBrace))) ps) → IsBlock e (placed at (token (mark OpenBrace) ∷ ps)) xs
+block_spelled : (c e : ℕ) (at : Span) (ps : List Piece) (first : Lexeme) (xs : List Stmt) → suc c ≤ e → Ended (AreStmtsOf xs (pred e)) first (past at (token (mark OpenBrace))) (placed (past at (token (mark OpenBrace))) ps) → IsBlock 200 e (placed at (token (mark OpenBrace) ∷ ps)) xs
 unfolding same_mark mark_number
 block_spelled c e at ps first xs le n =
     let o : Token = record { lexeme = mark OpenBrace; span = at } in
@@ -72,7 +72,7 @@ block_of c d levels xs d_is t = record {
   spelled = λ e at le. block_spelled c e at t.pieces t.first xs (omega arith) (t.spelled (pred e) (past at (token (mark OpenBrace))) (omega arith));
 }
 
-pub block_prints : {d : ℕ} {ts : List Token} {xs : List Stmt} (levels : ℕ) → ((c : ℕ) → d ≡ suc c → StmtsPrint c) → IsBlock d ts xs → AreLawfulTokens ts → BlockSpelling d levels xs
+pub block_prints : {d : ℕ} {ts : List Token} {xs : List Stmt} (levels : ℕ) → ((c : ℕ) → d ≡ suc c → StmtsPrint c) → IsBlock 200 d ts xs → AreLawfulTokens ts → BlockSpelling d levels xs
 block_prints {d = d} {xs = xs} levels deeper (braces c o us z d_is ts_is open_is p close_is) law =
     block_of c d levels xs d_is (stmts_tail z levels (deeper c d_is) p refl close_is (lawful_left us (z ∷ []) (lawful_as ts_is law).1))
 
@@ -96,7 +96,7 @@ block_spelling d levels next xs b = record {
 -- `if` and `while`
 
 abbrev pub Condition : ℕ → Expr → Type 0
-Condition d x = Headed (codes "(" ++ (expr_text x ++ codes ")")) (λ e us. IsCondition e us x) d
+Condition d x = Headed (codes "(" ++ (expr_text x ++ codes ")")) (λ e us. IsCondition 200 e us x) d
 
 headed_text : (w s : List ℕ) (ps qs : List Piece) (x : List ℕ) → pieces_text ps ≡ 40 ∷ (x ++ 41 ∷ []) → pieces_text qs ≡ s → w ++ 32 ∷ pieces_text (ps ++ space ∷ qs) ≡ w ++ 32 ∷ 40 ∷ (x ++ 41 ∷ 32 ∷ s)
 headed_text w s ps qs x k l = ap (λ u. w ++ 32 ∷ u) (text_append ps (space ∷ qs) ∙ rw (k, l) (append_assoc (40 ∷ x) (41 ∷ []) (32 ∷ s)))
@@ -178,7 +178,7 @@ loop_spelling c d levels next x z d_is h s = record {
 -- `for`
 
 abbrev pub Parts : ℕ → Option Stmt → Option Expr → Option Stmt → Type 0
-Parts d a x b = Headed (parts_text a x b) (λ e us. AreParts e us a x b) d
+Parts d a x b = Headed (parts_text a x b) (λ e us. AreParts 200 e us a x b) d
 
 parts_again : (t s u v : List ℕ) → (40 ∷ (t ++ 59 ∷ (s ++ 59 ∷ (u ++ 41 ∷ [])))) ++ 32 ∷ v ≡ (40 ∷ (t ++ 59 ∷ (s ++ 59 ∷ (u ++ 41 ∷ 32 ∷ [])))) ++ v
 parts_again t s u v = simp append_assoc

@@ -36,7 +36,7 @@ pub record ObjectSpelling (d levels : ℕ) (x : Decl) : Type 0 where
   pub upper : upper_first name ≡ true
   pub run : Run first (mark CloseBrace) pieces
   pub text_is : pieces_text pieces ≡ decl_text x levels
-  pub spelled : (e : ℕ) (at : Span) → d ≤ e → Other decl_apart x (IsObject e (placed at pieces))
+  pub spelled : (e : ℕ) (at : Span) → d ≤ e → Other decl_apart x (IsObject 200 e (placed at pieces))
 
 -- likewise of a value
 pub record ValueSpelling (d levels : ℕ) (x : Init) : Type 0 where
@@ -45,14 +45,14 @@ pub record ValueSpelling (d levels : ℕ) (x : Init) : Type 0 where
   pub last : Lexeme
   pub run : Run first last pieces
   pub text_is : pieces_text pieces ≡ init_text x levels
-  pub spelled : (e : ℕ) (at : Span) (next : Option Token) → d ≤ e → Starts next → Other init_apart x (λ y. (place : Span) × IsValue e (placed at pieces) next y place)
+  pub spelled : (e : ℕ) (at : Span) (next : Option Token) → d ≤ e → Starts next → Other init_apart x (λ y. (place : Span) × IsValue 200 e (placed at pieces) next y place)
 
 -- of a value that may be missing, behind a property's name
 pub record MaybeValueSpelling (d levels : ℕ) (x : Option Init) : Type 0 where
   pub pieces : List Piece
   pub joins : (a b : Lexeme) (ps : List Piece) → Run a b ps → (l : Lexeme) × Run a l (ps ++ pieces)
   pub text_is : pieces_text pieces ≡ maybe_text (codes ": ") (λ (f : ℕ → List ℕ). f levels) (option_map init_text x)
-  pub spelled : (e : ℕ) (at there : Span) (next : Option Token) → d ≤ e → Starts next → Other (option_map init_apart) x (λ y. (place : Span) × IsMaybeValue e (placed at pieces) next y place there)
+  pub spelled : (e : ℕ) (at there : Span) (next : Option Token) → d ≤ e → Starts next → Other (option_map init_apart) x (λ y. (place : Span) × IsMaybeValue 200 e (placed at pieces) next y place there)
 
 -- of a member with an end, without it
 pub record ShortMemberSpelling (d levels : ℕ) (x : Member) : Type 0 where
@@ -62,7 +62,7 @@ pub record ShortMemberSpelling (d levels : ℕ) (x : Member) : Type 0 where
   pub begins : begins_line first ≡ true
   pub run : Run first last pieces
   pub text_is : pieces_text pieces ≡ member_text x levels
-  pub spelled : (e : ℕ) (at : Span) (next : Option Token) → d ≤ e → Starts next → Other member_apart x (IsShortMember e (placed at pieces) next)
+  pub spelled : (e : ℕ) (at : Span) (next : Option Token) → d ≤ e → Starts next → Other member_apart x (IsShortMember 200 e (placed at pieces) next)
 
 -- of a member, before what stands on a later line
 pub record MemberSpelling (d levels : ℕ) (x : Member) : Type 0 where
@@ -72,7 +72,7 @@ pub record MemberSpelling (d levels : ℕ) (x : Member) : Type 0 where
   pub begins : begins_line first ≡ true
   pub run : Run first last pieces
   pub text_is : pieces_text pieces ≡ member_text x levels
-  pub spelled : (e : ℕ) (at : Span) (next : Option Token) → d ≤ e → Below (past_all at pieces) next → Other member_apart x (λ y. IsMember e (placed at pieces) next (y ∷ []))
+  pub spelled : (e : ℕ) (at : Span) (next : Option Token) → d ≤ e → Below (past_all at pieces) next → Other member_apart x (λ y. IsMember 200 e (placed at pieces) next (y ∷ []))
 
 -- of each of several members
 abbrev pub MemberSpellings : ℕ → ℕ → List Member → Type 0
@@ -105,7 +105,7 @@ member_of_short s = record {
 -- Members in braces
 
 abbrev pub AreLikeMembers : List Member → ℕ → List Token → Option Token → Type 0
-AreLikeMembers xs e ts next = Other (map member_apart) xs (AreMembers e ts next)
+AreLikeMembers xs e ts next = Other (map member_apart) xs (AreMembers 200 e ts next)
 
 -- the lines of members
 pub record MembersTail (d levels : ℕ) (xs : List Member) : Type 0 where
@@ -145,7 +145,7 @@ object_text l n levels fs ps h k = ap (λ s. s ++ 32 ∷ pieces_text (token (mar
 
 object_spelled : (c e : ℕ) (at : Span) (l : Lexeme) (n : List ℕ) (xs : List Member) (there : Span) (ps : List Piece) (first : Lexeme) → suc c ≤ e → name_of_lexeme l ≡ Some n → upper_first n ≡ true →
     Ended (AreLikeMembers xs (pred e)) first (past (past (past at (token l)) space) (token (mark OpenBrace))) (placed (past (past (past at (token l)) space) (token (mark OpenBrace))) ps) →
-    Other decl_apart (roll-Decl (record { name = n; members = xs; span = there })) (IsObject e (placed at (token l ∷ space ∷ token (mark OpenBrace) ∷ ps)))
+    Other decl_apart (roll-Decl (record { name = n; members = xs; span = there })) (IsObject 200 e (placed at (token l ∷ space ∷ token (mark OpenBrace) ∷ ps)))
 unfolding same_mark mark_number
 object_spelled c e at l n xs there ps first le named upper m =
     let t : Token = record { lexeme = l; span = at } in

@@ -75,7 +75,7 @@ step_no_assign o up h = lexeme_step_no_assign o.lexeme o.span up h
 
 -- a change, without its target
 abbrev pub IsChangeOf : ℕ → List Token → List Token → Option Token → Stmt → Type 0
-IsChangeOf d ts us next x = IsChange d (ts ++ us) next x
+IsChangeOf d ts us next x = IsChange 200 d (ts ++ us) next x
 
 no_change : (last next : Option Token) → looked_up assign_operator next ≡ None → (is_some (looked_up step_operator next) && same_line last next) ≡ false → changes_on last next ≡ false
 no_change last next e f = ap (λ (o : Option AssignOp). is_some o || is_some (looked_up step_operator next) && same_line last next) e ∙ f
@@ -132,7 +132,7 @@ module _ (other : Parser Stmt) (d k : ℕ) (ts : List Token) (x : Expr) (p : IsT
 
 -- What is spelled changes
 
-pub assigned_goes : (other : Parser Stmt) (d : ℕ) (x : Expr) (last : Option Token) (o : Token) (op : AssignOp) (vs : List Token) (next : Option Token) (y : Expr) (j : Input) → ahead j ≡ next → IsOperator assign_operator o op → IsWhole d vs next y → change_or other d x last (before (o ∷ vs) j) ≡ Ok (Assign x op y, j)
+pub assigned_goes : (other : Parser Stmt) (d : ℕ) (x : Expr) (last : Option Token) (o : Token) (op : AssignOp) (vs : List Token) (next : Option Token) (y : Expr) (j : Input) → ahead j ≡ next → IsOperator assign_operator o op → IsWhole 200 d vs next y → change_or other d x last (before (o ∷ vs) j) ≡ Ok (Assign x op y, j)
 unfolding change_or assigned
 assigned_goes other d x last o op vs next y j e is p = found _ _ is (ok_then _ (whole_goes d vs next y j e p) refl)
 

@@ -25,8 +25,8 @@ use Rattle.statement_laws.proofs.Wholes.{whole_begins, begins_ahead}
 
 -- the readings one level further in read what is spelled there
 pub record CompleteInside (d : ℕ) (v : Bodies) : Type 0 where
-  pub nested : (c : ℕ) → d ≡ suc c → Complete v.nested (IsStmt c)
-  pub block : (ts : List Token) (xs : List Stmt) (j : Input) → IsBlock d ts xs → v.block (before ts j) ≡ Ok (xs, j)
+  pub nested : (c : ℕ) → d ≡ suc c → Complete v.nested (IsStmt 200 c)
+  pub block : (ts : List Token) (xs : List Stmt) (j : Input) → IsBlock 200 d ts xs → v.block (before ts j) ≡ Ok (xs, j)
 
 -- Statements with an end
 
@@ -37,7 +37,7 @@ module _ (d : ℕ) (v : Bodies) where
       let chosen : statement_in d v (before (us ++ es) j) ≡ ended (act d) (before (us ++ es) j) = subst (λ ts. statement_in d v (before (ts ++ es) j) ≡ ended (act d) (before (ts ++ es) j)) (sym b.text) (reads_act d v b.token (b.others ++ es) j b.begins) in
       chosen ∙ ended_goes (act d) us es next x j e h end
 
-  short_goes : (us es : List Token) (next : Option Token) (x : Stmt) (j : Input) → ahead j ≡ next → IsShort d us (follow es next) x → IsEnd (last_of us) es next → statement_in d v (before (us ++ es) j) ≡ Ok (x, j)
+  short_goes : (us es : List Token) (next : Option Token) (x : Stmt) (j : Input) → ahead j ≡ next → IsShort 200 d us (follow es next) x → IsEnd (last_of us) es next → statement_in d v (before (us ++ es) j) ≡ Ok (x, j)
   short_goes us es next x j e (a_local t p w n us_is x_is word_is name_is unset) end =
       let after_it : ahead (before es j) ≡ follow es next = ahead_before es j e in
       let read = local_alone_goes d t p w n (before es j) name_is (ap (is_mark Equal) after_it ∙ unset) in
@@ -71,20 +71,20 @@ row us vs ws xs ys j =
 
 -- Statements in a row
 
-stmt_items : {d : ℕ} {ts : List Token} {next : Option Token} {xs : List Stmt} → AreStmts d ts next xs → Items (Single (IsStmt d)) ts next xs
+stmt_items : {d : ℕ} {ts : List Token} {next : Option Token} {xs : List Stmt} → AreStmts 200 d ts next xs → Items (Single (IsStmt 200 d)) ts next xs
 stmt_items (AreStmts.none ts_is xs_is) = no_item ts_is xs_is
 stmt_items (AreStmts.more us vs y ys ts_is xs_is p ps) = an_item us vs (y ∷ []) ys ts_is xs_is (one_item p) (stmt_items ps)
 
 module _ (d : ℕ) (v : Bodies) (inside : CompleteInside d v) where
   -- `if`
 
-  when_goes : (c : ℕ) (t : Token) (us vs : List Token) (next : Option Token) (y : Expr) (z : Stmt) (j : Input) → d ≡ suc c → ahead j ≡ next → IsCondition d us y → IsStmt c vs next z → is_word ww.Else next ≡ false → choice d v (before (t ∷ us ++ vs) j) ≡ Ok (If y z None, j)
+  when_goes : (c : ℕ) (t : Token) (us vs : List Token) (next : Option Token) (y : Expr) (z : Stmt) (j : Input) → d ≡ suc c → ahead j ≡ next → IsCondition 200 d us y → IsStmt 200 c vs next z → is_word ww.Else next ≡ false → choice d v (before (t ∷ us ++ vs) j) ≡ Ok (If y z None, j)
   unfolding choice otherwise
   when_goes c t us vs next y z j d_is e p q alone =
       let read : condition d (before (us ++ vs) j) ≡ Ok (y, before vs j) = ap (condition d) (before_both us vs j) ∙ condition_goes d p (before vs j) in
       ok_then _ read (ok_then _ (inside.nested c d_is vs next z j e q) (if_false _ _ (ap (is_word ww.Else) e ∙ alone) refl))
 
-  when_else_goes : (c : ℕ) (t : Token) (us vs : List Token) (o : Token) (ws : List Token) (next : Option Token) (y : Expr) (z w : Stmt) (j : Input) → d ≡ suc c → ahead j ≡ next → IsCondition d us y → IsStmt c vs (Some o) z → IsWord o ww.Else → IsStmt c ws next w → choice d v (before (t ∷ us ++ vs ++ o ∷ ws) j) ≡ Ok (If y z (Some w), j)
+  when_else_goes : (c : ℕ) (t : Token) (us vs : List Token) (o : Token) (ws : List Token) (next : Option Token) (y : Expr) (z w : Stmt) (j : Input) → d ≡ suc c → ahead j ≡ next → IsCondition 200 d us y → IsStmt 200 c vs (Some o) z → IsWord o ww.Else → IsStmt 200 c ws next w → choice d v (before (t ∷ us ++ vs ++ o ∷ ws) j) ≡ Ok (If y z (Some w), j)
   unfolding choice otherwise
   when_else_goes c t us vs o ws next y z w j d_is e p q else_is r =
       let rest : before (us ++ vs ++ o ∷ ws) j ≡ before us (before vs (before (o ∷ ws) j)) = before_both (us ++ vs) (o ∷ ws) j ∙ before_both us vs (before (o ∷ ws) j) in
@@ -94,7 +94,7 @@ module _ (d : ℕ) (v : Bodies) (inside : CompleteInside d v) where
 
   -- `while`
 
-  while_goes : (c : ℕ) (t : Token) (us vs : List Token) (next : Option Token) (y : Expr) (z : Stmt) (j : Input) → d ≡ suc c → ahead j ≡ next → IsCondition d us y → IsStmt c vs next z → while_statement d v (before (t ∷ us ++ vs) j) ≡ Ok (While y z, j)
+  while_goes : (c : ℕ) (t : Token) (us vs : List Token) (next : Option Token) (y : Expr) (z : Stmt) (j : Input) → d ≡ suc c → ahead j ≡ next → IsCondition 200 d us y → IsStmt 200 c vs next z → while_statement d v (before (t ∷ us ++ vs) j) ≡ Ok (While y z, j)
   unfolding while_statement
   while_goes c t us vs next y z j d_is e p q =
       let read : condition d (before (us ++ vs) j) ≡ Ok (y, before vs j) = ap (condition d) (before_both us vs j) ∙ condition_goes d p (before vs j) in
@@ -102,23 +102,23 @@ module _ (d : ℕ) (v : Bodies) (inside : CompleteInside d v) where
 
   -- `for`
 
-  body_goes : (c : ℕ) (z : Token) (vs : List Token) (next : Option Token) (a : Option Stmt) (y : Option Expr) (b : Option Stmt) (x : Stmt) (j : Input) → d ≡ suc c → ahead j ≡ next → IsMark z CloseParen → IsStmt c vs next x → for_body v a y b (before (z ∷ vs) j) ≡ Ok (For a y b x, j)
+  body_goes : (c : ℕ) (z : Token) (vs : List Token) (next : Option Token) (a : Option Stmt) (y : Option Expr) (b : Option Stmt) (x : Stmt) (j : Input) → d ≡ suc c → ahead j ≡ next → IsMark z CloseParen → IsStmt 200 c vs next x → for_body v a y b (before (z ∷ vs) j) ≡ Ok (For a y b x, j)
   unfolding for_body
   body_goes c z vs next a y b x j d_is e close_is q = ok_then _ (expect_before CloseParen z vs j close_is) (ok_then _ (inside.nested c d_is vs next x j e q) refl)
 
-  step_goes : (q : Token) (ws : List Token) (z : Token) (a : Option Stmt) (y : Option Expr) (b : Option Stmt) (x : Stmt) (i j : Input) → ahead i ≡ Some z → IsMark q Semicolon → IsMaybeSimple d ws (Some z) b → IsMark z CloseParen → for_body v a y b i ≡ Ok (x, j) → for_step d v a y (before (q ∷ ws) i) ≡ Ok (x, j)
+  step_goes : (q : Token) (ws : List Token) (z : Token) (a : Option Stmt) (y : Option Expr) (b : Option Stmt) (x : Stmt) (i j : Input) → ahead i ≡ Some z → IsMark q Semicolon → IsMaybeSimple 200 d ws (Some z) b → IsMark z CloseParen → for_body v a y b i ≡ Ok (x, j) → for_step d v a y (before (q ∷ ws) i) ≡ Ok (x, j)
   unfolding for_step
   step_goes q ws z a y b x i j e is p close_is h = ok_then _ (expect_before Semicolon q ws i is) (ok_then _ (simple_before_goes CloseParen d ws (Some z) b i close_is e p) h)
 
-  tests_go : (p : Token) (vs : List Token) (q : Token) (a : Option Stmt) (y : Option Expr) (x : Stmt) (i j : Input) → ahead i ≡ Some q → IsMark p Semicolon → IsMaybeWhole d vs (Some q) y → IsMark q Semicolon → for_step d v a y i ≡ Ok (x, j) → for_test d v a (before (p ∷ vs) i) ≡ Ok (x, j)
+  tests_go : (p : Token) (vs : List Token) (q : Token) (a : Option Stmt) (y : Option Expr) (x : Stmt) (i j : Input) → ahead i ≡ Some q → IsMark p Semicolon → IsMaybeWhole 200 d vs (Some q) y → IsMark q Semicolon → for_step d v a y i ≡ Ok (x, j) → for_test d v a (before (p ∷ vs) i) ≡ Ok (x, j)
   unfolding for_test
   tests_go p vs q a y x i j e is r semi h = ok_then _ (expect_before Semicolon p vs i is) (ok_then _ (test_goes d vs (Some q) y i semi e r) h)
 
-  for_goes : (t o : Token) (us : List Token) (p : Token) (a : Option Stmt) (x : Stmt) (i j : Input) → ahead i ≡ Some p → IsMark o OpenParen → IsMaybeSimple d us (Some p) a → IsMark p Semicolon → for_test d v a i ≡ Ok (x, j) → for_statement d v (before (t ∷ o ∷ us) i) ≡ Ok (x, j)
+  for_goes : (t o : Token) (us : List Token) (p : Token) (a : Option Stmt) (x : Stmt) (i j : Input) → ahead i ≡ Some p → IsMark o OpenParen → IsMaybeSimple 200 d us (Some p) a → IsMark p Semicolon → for_test d v a i ≡ Ok (x, j) → for_statement d v (before (t ∷ o ∷ us) i) ≡ Ok (x, j)
   unfolding for_statement
   for_goes t o us p a x i j e is r semi h = ok_then _ (expect_before OpenParen o us i is) (ok_then _ (simple_before_goes Semicolon d us (Some p) a i semi e r) h)
 
-  count_goes : (c : ℕ) (t : Token) {us : List Token} (vs : List Token) (next : Option Token) {a : Option Stmt} {y : Option Expr} {b : Option Stmt} (x : Stmt) (j : Input) → d ≡ suc c → ahead j ≡ next → AreParts d us a y b → IsStmt c vs next x → for_statement d v (before (t ∷ us ++ vs) j) ≡ Ok (For a y b x, j)
+  count_goes : (c : ℕ) (t : Token) {us : List Token} (vs : List Token) (next : Option Token) {a : Option Stmt} {y : Option Expr} {b : Option Stmt} (x : Stmt) (j : Input) → d ≡ suc c → ahead j ≡ next → AreParts 200 d us a y b → IsStmt 200 c vs next x → for_statement d v (before (t ∷ us ++ vs) j) ≡ Ok (For a y b x, j)
   count_goes c t vs next {a = a} {y = y} {b = b} x j d_is e (parts o us p ts q ws z us_is open_is first semi second semi_too third close_is) r =
       let k₁ : Input = before (z ∷ vs) j in
       let k₂ : Input = before (q ∷ ws) k₁ in
@@ -135,13 +135,13 @@ module _ (d : ℕ) (v : Bodies) (inside : CompleteInside d v) where
   unfolding empty_statement
   empty_goes t j = refl
 
-  block_goes : {ts : List Token} (xs : List Stmt) → IsBlock d ts xs → (j : Input) → statement_in d v (before ts j) ≡ Ok (Block xs, j)
+  block_goes : {ts : List Token} (xs : List Stmt) → IsBlock 200 d ts xs → (j : Input) → statement_in d v (before ts j) ≡ Ok (Block xs, j)
   unfolding block_statement
   block_goes xs (a_braces c o us z d_is ts_is open_is p close_is) j =
       let read = inside.block (o ∷ us ++ z ∷ []) xs j (a_braces c o us z d_is refl open_is p close_is) in
       rw ts_is (reads_block d v o (us ++ z ∷ []) j open_is ∙ ok_then _ read refl)
 
-  pub statement_goes : Complete (statement_in d v) (IsStmt d)
+  pub statement_goes : Complete (statement_in d v) (IsStmt 200 d)
   statement_goes ts next x j e (short us es ts_is p end) = rw ts_is (short_goes d v us es next x j e p end)
   statement_goes ts next x j e (a_block xs x_is p) = rw x_is (block_goes xs p j)
   statement_goes ts next x j e (empty t ts_is x_is is) = rw (ts_is, x_is) (reads_empty d v t [] j is ∙ empty_goes t j)
@@ -152,13 +152,13 @@ module _ (d : ℕ) (v : Bodies) (inside : CompleteInside d v) where
 
   -- Blocks
 
-  one_more_goes : (us : List Token) (next : Option Token) (ys xs : List Stmt) (j : Input) → ahead j ≡ next → Single (IsStmt d) us next ys → one_more d v xs (before us j) ≡ Ok (xs ++ ys, j)
+  one_more_goes : (us : List Token) (next : Option Token) (ys xs : List Stmt) (j : Input) → ahead j ≡ next → Single (IsStmt 200 d) us next ys → one_more d v xs (before us j) ≡ Ok (xs ++ ys, j)
   unfolding one_more
   one_more_goes us next ys xs j e p = rw p.alone (ok_then _ (statement_goes us next p.value j e p.is) refl)
 
-  pub braces_go : (o : Token) (us : List Token) (z : Token) (xs : List Stmt) (j : Input) → AreStmts d us (Some z) xs → IsMark z CloseBrace → braces d v (before (o ∷ us ++ z ∷ []) j) ≡ Ok (xs, j)
+  pub braces_go : (o : Token) (us : List Token) (z : Token) (xs : List Stmt) (j : Input) → AreStmts 200 d us (Some z) xs → IsMark z CloseBrace → braces d v (before (o ∷ us ++ z ∷ []) j) ≡ Ok (xs, j)
   unfolding braces statements
-  braces_go o us z xs j p close_is = until_brace_goes (Single (IsStmt d)) (one_more d v) stmts_begin one_more_goes us z xs j (stmt_items p) close_is
+  braces_go o us z xs j p close_is = until_brace_goes (Single (IsStmt 200 d)) (one_more d v) stmts_begin one_more_goes us z xs j (stmt_items p) close_is
 
 -- All levels
 
@@ -168,16 +168,16 @@ no_level c e = omega arith
 one_less : (c d : ℕ) → suc d ≡ suc c → c ≡ d
 one_less c d e = omega arith
 
-begun_goes : (p : Parser Stmt) {d : ℕ} (ts : List Token) (next : Option Token) (x : Stmt) (j : Input) → IsStmt d ts next x → p (before ts j) ≡ Ok (x, j) → begun p (before ts j) ≡ Ok (x, j)
+begun_goes : (p : Parser Stmt) {d : ℕ} (ts : List Token) (next : Option Token) (x : Stmt) (j : Input) → IsStmt 200 d ts next x → p (before ts j) ≡ Ok (x, j) → begun p (before ts j) ≡ Ok (x, j)
 unfolding begun
 begun_goes p ts next x j q h = if_true _ _ (begins_ahead (stmt_begins q) j) h
 
-no_block : {ts : List Token} {xs : List Stmt} → IsBlock 0 ts xs → ⊥
+no_block : {ts : List Token} {xs : List Stmt} → IsBlock 200 0 ts xs → ⊥
 no_block (a_braces c o us z d_is ts_is open_is p close_is) = no_level c d_is
 
-block_level : (d : ℕ) (v : Bodies) (inside : CompleteInside d v) {ts : List Token} (xs : List Stmt) (j : Input) → IsBlock (suc d) ts xs → braces d v (before ts j) ≡ Ok (xs, j)
+block_level : (d : ℕ) (v : Bodies) (inside : CompleteInside d v) {ts : List Token} (xs : List Stmt) (j : Input) → IsBlock 200 (suc d) ts xs → braces d v (before ts j) ≡ Ok (xs, j)
 block_level d v inside xs j (a_braces c o us z d_is ts_is open_is p close_is) =
-    rw ts_is (braces_go d v inside o us z xs j (subst (λ n. AreStmts n us (Some z) xs) (one_less c d d_is) p) close_is)
+    rw ts_is (braces_go d v inside o us z xs j (subst (λ n. AreStmts 200 n us (Some z) xs) (one_less c d d_is) p) close_is)
 
 pub complete : (d : ℕ) → CompleteInside d (bodies d)
 unfolding bodies
@@ -186,18 +186,18 @@ complete zero = record {
   block = λ ts xs j p. absurd (no_block p);
 }
 complete (suc d) = record {
-  nested = λ c e ts next x j a p. begun_goes (statement_in d (bodies d)) ts next x j p (statement_goes d (bodies d) (complete d) ts next x j a (subst (λ n. IsStmt n ts next x) (one_less c d e) p));
+  nested = λ c e ts next x j a p. begun_goes (statement_in d (bodies d)) ts next x j p (statement_goes d (bodies d) (complete d) ts next x j a (subst (λ n. IsStmt 200 n ts next x) (one_less c d e) p));
   block = λ ts xs j p. block_level d (bodies d) (complete d) xs j p;
 }
 
-pub statement_complete : (d : ℕ) (i j : Input) (x : Stmt) → Covers (IsStmt d) i j x → statement d i ≡ Ok (x, j)
+pub statement_complete : (d : ℕ) (i j : Input) (x : Stmt) → Covers (IsStmt 200 d) i j x → statement d i ≡ Ok (x, j)
 unfolding statement
-statement_complete d i j x c = reads_covered (statement_in d (bodies d)) (IsStmt d) (statement_goes d (bodies d) (complete d)) c
+statement_complete d i j x c = reads_covered (statement_in d (bodies d)) (IsStmt 200 d) (statement_goes d (bodies d) (complete d)) c
 
 pub block_complete : (d : ℕ) (i j : Input) (xs : List Stmt) → Covers (IsBlockBefore d) i j xs → (bodies d).block i ≡ Ok (xs, j)
 block_complete d i j xs c = ap (bodies d).block (arrived c.way) ∙ (complete d).block c.text xs j c.spelled
 
-pub statement_once : (d : ℕ) (i j k : Input) (x y : Stmt) → Covers (IsStmt d) i j x → Covers (IsStmt d) i k y → (x ≡ y) × (j ≡ k)
+pub statement_once : (d : ℕ) (i j k : Input) (x y : Stmt) → Covers (IsStmt 200 d) i j x → Covers (IsStmt 200 d) i k y → (x ≡ y) × (j ≡ k)
 statement_once d i j k x y a b =
     let e = sym (statement_complete d i j x a) ∙ statement_complete d i k y b in
     (same_value x y j k e, same_input x y j k e)

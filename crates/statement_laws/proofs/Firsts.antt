@@ -102,11 +102,11 @@ target_begins p = expr_begins (target_expr {d = 0} p)
 expr_text_begins : {ts : List Token} → Begins begins_expr ts → Begins begins_statement ts
 expr_text_begins b = record { token = b.token; others = b.others; text = b.text; begins = expr_begins_statement b.token b.begins }
 
-pub change_begins_expr : {d : ℕ} {ts : List Token} {next : Option Token} {x : Stmt} → IsChange d ts next x → Begins begins_expr ts
+pub change_begins_expr : {d : ℕ} {ts : List Token} {next : Option Token} {x : Stmt} → IsChange 200 d ts next x → Begins begins_expr ts
 change_begins_expr (assign k us o vs y op z ts_is x_is p few is q) = begins_left us (o ∷ vs) ts_is (target_begins p)
 change_begins_expr (step k us o y up ts_is x_is p few is line) = begins_left us (o ∷ []) ts_is (target_begins p)
 
-short_begins : {d : ℕ} {ts : List Token} {next : Option Token} {x : Stmt} → IsShort d ts next x → Begins begins_statement ts
+short_begins : {d : ℕ} {ts : List Token} {next : Option Token} {x : Stmt} → IsShort 200 d ts next x → Begins begins_statement ts
 short_begins (a_local t p w n ts_is x_is word_is name_is unset) = record { token = t; others = p ∷ []; text = ts_is; begins = local_begins t w word_is }
 short_begins (local_set t p o us w n y ts_is x_is word_is name_is equal q) = record { token = t; others = p ∷ o ∷ us; text = ts_is; begins = local_begins t w word_is }
 short_begins (change p) = expr_text_begins (change_begins_expr p)
@@ -114,10 +114,10 @@ short_begins (an_act y x_is p calm) = expr_text_begins (whole_begins p)
 short_begins (a_leave t ts_is x_is word_is) = record { token = t; others = []; text = ts_is; begins = return_begins t word_is }
 short_begins (leave_with t us y ts_is x_is word_is line p) = record { token = t; others = us; text = ts_is; begins = return_begins t word_is }
 
-block_begins : {d : ℕ} {ts : List Token} {xs : List Stmt} → IsBlock d ts xs → Begins begins_statement ts
+block_begins : {d : ℕ} {ts : List Token} {xs : List Stmt} → IsBlock 200 d ts xs → Begins begins_statement ts
 block_begins (braces c o us z d_is ts_is open_is p close_is) = record { token = o; others = us ++ z ∷ []; text = ts_is; begins = brace_begins o open_is }
 
-pub stmt_begins : {d : ℕ} {ts : List Token} {next : Option Token} {x : Stmt} → IsStmt d ts next x → Begins begins_statement ts
+pub stmt_begins : {d : ℕ} {ts : List Token} {next : Option Token} {x : Stmt} → IsStmt 200 d ts next x → Begins begins_statement ts
 stmt_begins (short us es ts_is p end) = begins_left us es ts_is (short_begins p)
 stmt_begins (block xs x_is p) = block_begins p
 stmt_begins (empty t ts_is x_is is) = record { token = t; others = []; text = ts_is; begins = semicolon_begins t is }
@@ -138,7 +138,7 @@ lexeme_begins_inside _ s h = refl
 begins_inside : (t : Token) → begins_statement (Some t) ≡ true → goes_on_inside (Some t) ≡ true
 begins_inside t h = rw (lexeme_begins_inside t.lexeme t.span h) refl
 
-pub stmt_begins_inside : {d : ℕ} {ts : List Token} {next : Option Token} {x : Stmt} → IsStmt d ts next x → Begins goes_on_inside ts
+pub stmt_begins_inside : {d : ℕ} {ts : List Token} {next : Option Token} {x : Stmt} → IsStmt 200 d ts next x → Begins goes_on_inside ts
 stmt_begins_inside p = let b = stmt_begins p in record { token = b.token; others = b.others; text = b.text; begins = begins_inside b.token b.begins }
 
 -- What the parts of `for` begin with
@@ -174,11 +174,11 @@ pub target_begins_name : {k : ℕ} {ts : List Token} {x : Expr} → IsTarget k t
 target_begins_name (name t n k_is ts_is x_is is) = record { token = t; others = []; text = ts_is; begins = ap is_some is }
 target_begins_name (more_target i us o t y n k_is ts_is x_is p dot name_is) = begins_left us (o ∷ t ∷ []) ts_is (target_begins_name p)
 
-pub change_begins_name : {d : ℕ} {ts : List Token} {next : Option Token} {x : Stmt} → IsChange d ts next x → Begins is_operand_name ts
+pub change_begins_name : {d : ℕ} {ts : List Token} {next : Option Token} {x : Stmt} → IsChange 200 d ts next x → Begins is_operand_name ts
 change_begins_name (assign k us o vs y op z ts_is x_is p few is q) = begins_left us (o ∷ vs) ts_is (target_begins_name p)
 change_begins_name (step k us o y up ts_is x_is p few is line) = begins_left us (o ∷ []) ts_is (target_begins_name p)
 
-pub simple_begins : {d : ℕ} {ts : List Token} {next : Option Token} {x : Stmt} → IsSimple d ts next x → Begins begins_simple ts
+pub simple_begins : {d : ℕ} {ts : List Token} {next : Option Token} {x : Stmt} → IsSimple 200 d ts next x → Begins begins_simple ts
 simple_begins (simple_set t p o us n y ts_is x_is word_is name_is equal q) = record { token = t; others = p ∷ o ∷ us; text = ts_is; begins = or_left _ _ word_is }
 simple_begins (simple_changed p) = let b = change_begins_name p in record { token = b.token; others = b.others; text = b.text; begins = or_right _ b.begins }
 

@@ -36,16 +36,16 @@ at_level {Spells = Spells} {i = i} {j = j} {x = x} c e deep = subst (λ n. Cover
 
 -- the readings one level further in are right
 pub record SoundInside (d : ℕ) (v : Bodies) : Type 0 where
-  pub nested : (i : Input) (x : Stmt) (j : Input) → v.nested i ≡ Ok (x, j) → Deeper IsStmt d i j x
+  pub nested : (i : Input) (x : Stmt) (j : Input) → v.nested i ≡ Ok (x, j) → Deeper (IsStmt 200) d i j x
   pub block : (i : Input) (xs : List Stmt) (j : Input) → is_mark OpenBrace (ahead i) ≡ true → v.block i ≡ Ok (xs, j) → Covers (IsBlockBefore d) i j xs
 
 -- Statements with an end
 
-stmt_ended : {d : ℕ} (ts : List Token) (next : Option Token) {x : Stmt} → IsEnded (IsShort d) ts next x → IsStmt d ts next x
+stmt_ended : {d : ℕ} (ts : List Token) (next : Option Token) {x : Stmt} → IsEnded (IsShort 200 d) ts next x → IsStmt 200 d ts next x
 stmt_ended ts next e = short e.text e.end e.both e.spelled e.ends
 
-short_covers : (d : ℕ) (p : Parser Stmt) (i : Input) → SoundAt p (IsShort d) i → SoundAt (ended p) (IsStmt d) i
-short_covers d p i sound x j h = covers_as (λ ts next e. stmt_ended ts next e) (ended_covers p (IsShort d) i sound x j h)
+short_covers : (d : ℕ) (p : Parser Stmt) (i : Input) → SoundAt p (IsShort 200 d) i → SoundAt (ended p) (IsStmt 200 d) i
+short_covers d p i sound x j h = covers_as (λ ts next e. stmt_ended ts next e) (ended_covers p (IsShort 200 d) i sound x j h)
 
 -- Texts in a row
 
@@ -54,11 +54,11 @@ row us vs ws t = sym (append_assoc us vs (t ∷ ws))
 
 -- Statements in a row
 
-are_stmts : {d : ℕ} {ts : List Token} {next : Option Token} {xs : List Stmt} → Items (Single (IsStmt d)) ts next xs → AreStmts d ts next xs
+are_stmts : {d : ℕ} {ts : List Token} {next : Option Token} {xs : List Stmt} → Items (Single (IsStmt 200 d)) ts next xs → AreStmts 200 d ts next xs
 are_stmts (no_item ts_is xs_is) = AreStmts.none ts_is xs_is
 are_stmts (an_item us vs ys zs ts_is xs_is p ps) = AreStmts.more us vs p.value zs ts_is (xs_is ∙ ap (λ ws. ws ++ zs) p.alone) p.is (are_stmts ps)
 
-pub stmts_begin : {d : ℕ} (ts : List Token) (next : Option Token) (xs : List Stmt) → Single (IsStmt d) ts next xs → Begins goes_on_inside ts
+pub stmts_begin : {d : ℕ} (ts : List Token) (next : Option Token) (xs : List Stmt) → Single (IsStmt 200 d) ts next xs → Begins goes_on_inside ts
 stmts_begin ts next xs p = stmt_begins_inside p.is
 
 module _ (d : ℕ) (v : Bodies) (inside : SoundInside d v) where
@@ -66,20 +66,20 @@ module _ (d : ℕ) (v : Bodies) (inside : SoundInside d v) where
 
   -- what an `if` with this condition becomes by what stands behind the condition
   abbrev IsChoiceOf : List Token → List Token → Option Token → Stmt → Type 0
-  IsChoiceOf ts us next x = IsStmt d (ts ++ us) next x
+  IsChoiceOf ts us next x = IsStmt 200 d (ts ++ us) next x
 
-  else_covers : (t : Token) (us : List Token) (x : Expr) (k i : Input) (y z : Stmt) (j : Input) → IsWord t ww.If → IsCondition d us x → Deeper IsStmt d k i y → Taken (is_word ww.Else) i (after i) → Deeper IsStmt d (after i) j z → Covers (IsChoiceOf (t ∷ us)) k j (If x y (Some z))
+  else_covers : (t : Token) (us : List Token) (x : Expr) (k i : Input) (y z : Stmt) (j : Input) → IsWord t ww.If → IsCondition 200 d us x → Deeper (IsStmt 200) d k i y → Taken (is_word ww.Else) i (after i) → Deeper (IsStmt 200) d (after i) j z → Covers (IsChoiceOf (t ∷ us)) k j (If x y (Some z))
   else_covers t us x k i y z j word_is p first o second =
       let a = first.covers in
       let b = at_level first.less first.one_less second in
-      let then_it : IsStmt first.less a.text (Some o.token) y = subst (λ n. IsStmt first.less a.text n y) (ahead_follow o.way) a.spelled in
+      let then_it : IsStmt 200 first.less a.text (Some o.token) y = subst (λ n. IsStmt 200 first.less a.text n y) (ahead_follow o.way) a.spelled in
       record {
         text = a.text ++ o.token ∷ b.text;
         way = way_then a.way (way_then o.way b.way);
         spelled = when_else first.less t us a.text o.token b.text x y z first.one_less (row (t ∷ us) a.text b.text o.token) refl word_is p then_it o.is b.spelled;
       }
 
-  otherwise_covers : (t : Token) (us : List Token) (x : Expr) (k i : Input) (y z : Stmt) (j : Input) → IsWord t ww.If → IsCondition d us x → Deeper IsStmt d k i y → otherwise v x y i ≡ Ok (z, j) → Covers (IsChoiceOf (t ∷ us)) k j z
+  otherwise_covers : (t : Token) (us : List Token) (x : Expr) (k i : Input) (y z : Stmt) (j : Input) → IsWord t ww.If → IsCondition 200 d us x → Deeper (IsStmt 200) d k i y → otherwise v x y i ≡ Ok (z, j) → Covers (IsChoiceOf (t ∷ us)) k j z
   unfolding otherwise
   otherwise_covers t us x k i y z j word_is p first h = elim (if_ok (is_word ww.Else (ahead i)) _ _ _ h) [
     | inl a ↦ (
@@ -92,7 +92,7 @@ module _ (d : ℕ) (v : Bodies) (inside : SoundInside d v) where
         covers_to (record { text = c.text; way = c.way; spelled = when first.less t us c.text x y first.one_less refl refl word_is p c.spelled a.0 }) a.1)
   ]
 
-  choice_covers : (i : Input) → is_word ww.If (ahead i) ≡ true → SoundAt (choice d v) (IsStmt d) i
+  choice_covers : (i : Input) → is_word ww.If (ahead i) ≡ true → SoundAt (choice d v) (IsStmt 200 d) i
   unfolding choice
   choice_covers i e x j h =
       let t = ahead_some (is_word ww.If) refl i e in
@@ -103,7 +103,7 @@ module _ (d : ℕ) (v : Bodies) (inside : SoundInside d v) where
 
   -- `while`
 
-  while_by : {i k j : Input} {x : Expr} {y : Stmt} (t : Token) → i.rest ≡ t ∷ (after i).rest → IsWord t ww.While → Covers (IsConditionBefore d) (after i) k x → Deeper IsStmt d k j y → Covers (IsStmt d) i j (While x y)
+  while_by : {i k j : Input} {x : Expr} {y : Stmt} (t : Token) → i.rest ≡ t ∷ (after i).rest → IsWord t ww.While → Covers (IsConditionBefore d) (after i) k x → Deeper (IsStmt 200) d k j y → Covers (IsStmt 200 d) i j (While x y)
   while_by {x = x} {y = y} t rest word_is c deep =
       let a = deep.covers in
       record {
@@ -112,7 +112,7 @@ module _ (d : ℕ) (v : Bodies) (inside : SoundInside d v) where
         spelled = loop deep.less t c.text a.text x y deep.one_less refl refl word_is c.spelled a.spelled;
       }
 
-  while_covers : (i : Input) → is_word ww.While (ahead i) ≡ true → SoundAt (while_statement d v) (IsStmt d) i
+  while_covers : (i : Input) → is_word ww.While (ahead i) ≡ true → SoundAt (while_statement d v) (IsStmt 200 d) i
   unfolding while_statement
   while_covers i e x j h =
       let t = ahead_some (is_word ww.While) refl i e in
@@ -128,7 +128,7 @@ module _ (d : ℕ) (v : Bodies) (inside : SoundInside d v) where
     at : Input
     value : Stmt
     close : Taken (is_mark CloseParen) i at
-    deep : Deeper IsStmt d at j value
+    deep : Deeper (IsStmt 200) d at j value
     same : x ≡ For a y b value
 
   record ForStep (a : Option Stmt) (y : Option Expr) (i j : Input) (x : Stmt) : Type 0 where
@@ -136,7 +136,7 @@ module _ (d : ℕ) (v : Bodies) (inside : SoundInside d v) where
     to : Input
     value : Option Stmt
     semi : Taken (is_mark Semicolon) i at
-    part : Covers (IsMaybeSimple d) at to value
+    part : Covers (IsMaybeSimple 200 d) at to value
     body : ForBody a y value to j x
 
   record ForTest (a : Option Stmt) (i j : Input) (x : Stmt) : Type 0 where
@@ -144,7 +144,7 @@ module _ (d : ℕ) (v : Bodies) (inside : SoundInside d v) where
     to : Input
     value : Option Expr
     semi : Taken (is_mark Semicolon) i at
-    part : Covers (IsMaybeWhole d) at to value
+    part : Covers (IsMaybeWhole 200 d) at to value
     step : ForStep a value to j x
 
   body_reads : (a : Option Stmt) (y : Option Expr) (b : Option Stmt) (i : Input) (x : Stmt) (j : Input) → for_body v a y b i ≡ Ok (x, j) → ForBody a y b i j x
@@ -156,7 +156,7 @@ module _ (d : ℕ) (v : Bodies) (inside : SoundInside d v) where
         at = c.at;
         value = z.value;
         close = expected CloseParen i c.at c.value c.first;
-        deep = subst (λ k. Deeper IsStmt d c.at k z.value) (same_input (For a y b z.value) x z.at j z.onward) (inside.nested c.at z.value z.at z.first);
+        deep = subst (λ k. Deeper (IsStmt 200) d c.at k z.value) (same_input (For a y b z.value) x z.at j z.onward) (inside.nested c.at z.value z.at z.first);
         same = sym (same_value (For a y b z.value) x z.at j z.onward);
       }
 
@@ -189,20 +189,20 @@ module _ (d : ℕ) (v : Bodies) (inside : SoundInside d v) where
       }
 
   abbrev ArePartsBefore : Option Stmt → Option Expr → Option Stmt → List Token → Option Token → Unit {0} → Type 0
-  ArePartsBefore x y z ts next u = AreParts d ts x y z
+  ArePartsBefore x y z ts next u = AreParts 200 d ts x y z
 
-  parts_by : {i j k l m n o p : Input} {x : Option Stmt} {y : Option Expr} {z : Option Stmt} → Taken (is_mark OpenParen) i j → Covers (IsMaybeSimple d) j k x → Taken (is_mark Semicolon) k l → Covers (IsMaybeWhole d) l m y → Taken (is_mark Semicolon) m n → Covers (IsMaybeSimple d) n o z → Taken (is_mark CloseParen) o p → Covers (ArePartsBefore x y z) i p tt
+  parts_by : {i j k l m n o p : Input} {x : Option Stmt} {y : Option Expr} {z : Option Stmt} → Taken (is_mark OpenParen) i j → Covers (IsMaybeSimple 200 d) j k x → Taken (is_mark Semicolon) k l → Covers (IsMaybeWhole 200 d) l m y → Taken (is_mark Semicolon) m n → Covers (IsMaybeSimple 200 d) n o z → Taken (is_mark CloseParen) o p → Covers (ArePartsBefore x y z) i p tt
   parts_by {x = x} {y = y} {z = z} a us b vs c ws e =
-      let first : IsMaybeSimple d us.text (Some b.token) x = subst (λ n. IsMaybeSimple d us.text n x) (ahead_follow b.way) us.spelled in
-      let second : IsMaybeWhole d vs.text (Some c.token) y = subst (λ n. IsMaybeWhole d vs.text n y) (ahead_follow c.way) vs.spelled in
-      let third : IsMaybeSimple d ws.text (Some e.token) z = subst (λ n. IsMaybeSimple d ws.text n z) (ahead_follow e.way) ws.spelled in
+      let first : IsMaybeSimple 200 d us.text (Some b.token) x = subst (λ n. IsMaybeSimple 200 d us.text n x) (ahead_follow b.way) us.spelled in
+      let second : IsMaybeWhole 200 d vs.text (Some c.token) y = subst (λ n. IsMaybeWhole 200 d vs.text n y) (ahead_follow c.way) vs.spelled in
+      let third : IsMaybeSimple 200 d ws.text (Some e.token) z = subst (λ n. IsMaybeSimple 200 d ws.text n z) (ahead_follow e.way) ws.spelled in
       record {
         text = a.token ∷ us.text ++ b.token ∷ vs.text ++ c.token ∷ ws.text ++ e.token ∷ [];
         way = way_then (way_then (way_then (way_then a.way us.way) (way_then b.way vs.way)) (way_then c.way ws.way)) e.way;
         spelled = parts a.token us.text b.token vs.text c.token ws.text e.token refl a.is first b.is second c.is third e.is;
       }
 
-  for_by : {i k j : Input} {x : Stmt} {a : Option Stmt} {y : Option Expr} {b : Option Stmt} {z : Stmt} (t : Token) → i.rest ≡ t ∷ (after i).rest → IsWord t ww.For → Covers (ArePartsBefore a y b) (after i) k tt → Deeper IsStmt d k j z → x ≡ For a y b z → Covers (IsStmt d) i j x
+  for_by : {i k j : Input} {x : Stmt} {a : Option Stmt} {y : Option Expr} {b : Option Stmt} {z : Stmt} (t : Token) → i.rest ≡ t ∷ (after i).rest → IsWord t ww.For → Covers (ArePartsBefore a y b) (after i) k tt → Deeper (IsStmt 200) d k j z → x ≡ For a y b z → Covers (IsStmt 200 d) i j x
   for_by {a = a} {y = y} {b = b} {z = z} t rest word_is c deep same =
       let e = deep.covers in
       record {
@@ -211,13 +211,13 @@ module _ (d : ℕ) (v : Bodies) (inside : SoundInside d v) where
         spelled = count deep.less t c.text e.text a y b z deep.one_less refl same word_is c.spelled e.spelled;
       }
 
-  for_from : {i k l j : Input} {x : Stmt} {a : Option Stmt} (t : Token) → i.rest ≡ t ∷ (after i).rest → IsWord t ww.For → Taken (is_mark OpenParen) (after i) k → Covers (IsMaybeSimple d) k l a → ForTest a l j x → Covers (IsStmt d) i j x
+  for_from : {i k l j : Input} {x : Stmt} {a : Option Stmt} (t : Token) → i.rest ≡ t ∷ (after i).rest → IsWord t ww.For → Taken (is_mark OpenParen) (after i) k → Covers (IsMaybeSimple 200 d) k l a → ForTest a l j x → Covers (IsStmt 200 d) i j x
   for_from t rest word_is open_it first f =
       let s = f.step in
       let b = s.body in
       for_by t rest word_is (parts_by open_it first f.semi f.part s.semi s.part b.close) b.deep b.same
 
-  for_covers : (i : Input) → is_word ww.For (ahead i) ≡ true → SoundAt (for_statement d v) (IsStmt d) i
+  for_covers : (i : Input) → is_word ww.For (ahead i) ≡ true → SoundAt (for_statement d v) (IsStmt 200 d) i
   unfolding for_statement
   for_covers i e x j h =
       let t = ahead_some (is_word ww.For) refl i e in
@@ -227,19 +227,19 @@ module _ (d : ℕ) (v : Bodies) (inside : SoundInside d v) where
 
   -- All statements
 
-  block_covers : (i : Input) → is_mark OpenBrace (ahead i) ≡ true → SoundAt (block_statement v) (IsStmt d) i
+  block_covers : (i : Input) → is_mark OpenBrace (ahead i) ≡ true → SoundAt (block_statement v) (IsStmt 200 d) i
   unfolding block_statement
   block_covers i e x j h =
       let b = bind_ok (v.block i) _ _ h in
       covers_to (covers_as (λ ts next q. a_block b.value refl q) (inside.block i b.value b.at e b.first)) b.onward
 
-  empty_covers : (i : Input) → is_mark Semicolon (ahead i) ≡ true → SoundAt empty_statement (IsStmt d) i
+  empty_covers : (i : Input) → is_mark Semicolon (ahead i) ≡ true → SoundAt empty_statement (IsStmt 200 d) i
   unfolding empty_statement
   empty_covers i e x j h =
       let t = ahead_some (is_mark Semicolon) refl i e in
       covers_to (record { text = t.token ∷ []; way = way_token t.token t.rest; spelled = empty t.token refl refl t.is }) h
 
-  by_word_covers : Sound (by_word d v) (IsStmt d)
+  by_word_covers : Sound (by_word d v) (IsStmt 200 d)
   unfolding by_word
   by_word_covers i x j h = elim (if_ok (is_word ww.If (ahead i)) _ _ _ h) [
     | inl a ↦ choice_covers i a.0 x j a.1
@@ -255,11 +255,11 @@ module _ (d : ℕ) (v : Bodies) (inside : SoundInside d v) where
     ]
   ]
 
-  local_or_word_covers : (i : Input) (x : Stmt) (j : Input) (q : Option LocalWord) → local_word_of (ahead i) ≡ q → ◌≡◌ {A = Result (Stmt × Input) DocFault} (elim q [ Some w ↦ ended (local d w) i | None ↦ by_word d v i ]) (Ok (x, j)) → Covers (IsStmt d) i j x
+  local_or_word_covers : (i : Input) (x : Stmt) (j : Input) (q : Option LocalWord) → local_word_of (ahead i) ≡ q → ◌≡◌ {A = Result (Stmt × Input) DocFault} (elim q [ Some w ↦ ended (local d w) i | None ↦ by_word d v i ]) (Ok (x, j)) → Covers (IsStmt 200 d) i j x
   local_or_word_covers i x j (Some w) e h = short_covers d (local d w) i (local_covers d w i e) x j h
   local_or_word_covers i x j None e h = by_word_covers i x j h
 
-  pub statement_covers : Sound (statement_in d v) (IsStmt d)
+  pub statement_covers : Sound (statement_in d v) (IsStmt 200 d)
   unfolding statement_in
   statement_covers i x j h = elim (if_ok (is_mark OpenBrace (ahead i)) _ _ _ h) [
     | inl a ↦ block_covers i a.0 x j a.1
@@ -271,13 +271,13 @@ module _ (d : ℕ) (v : Bodies) (inside : SoundInside d v) where
 
   -- Blocks
 
-  one_more_adds : (xs : List Stmt) (i : Input) (ys : List Stmt) (j : Input) → goes_on_inside (ahead i) ≡ true → one_more d v xs i ≡ Ok (ys, j) → Added (Single (IsStmt d)) xs i ys j
+  one_more_adds : (xs : List Stmt) (i : Input) (ys : List Stmt) (j : Input) → goes_on_inside (ahead i) ≡ true → one_more d v xs i ≡ Ok (ys, j) → Added (Single (IsStmt 200 d)) xs i ys j
   unfolding one_more
   one_more_adds xs i ys j t h =
       let b = bind_ok (statement_in d v i) _ _ h in
       added_to (record { values = b.value ∷ []; both = refl; covers = covers_as (λ ts next q. one_item q) (statement_covers i b.value b.at b.first) }) b.onward
 
-  braces_by : {i j : Input} {xs : List Stmt} (o : Token) → i.rest ≡ o ∷ (after i).rest → is_mark OpenBrace (Some o) ≡ true → Closed (Single (IsStmt d)) (after i) j xs → Covers (IsBlockBefore (suc d)) i j xs
+  braces_by : {i j : Input} {xs : List Stmt} (o : Token) → i.rest ≡ o ∷ (after i).rest → is_mark OpenBrace (Some o) ≡ true → Closed (Single (IsStmt 200 d)) (after i) j xs → Covers (IsBlockBefore (suc d)) i j xs
   braces_by {xs = xs} o rest is c = record {
     text = o ∷ c.text ++ c.close ∷ [];
     way = way_then (way_token o rest) c.way;
@@ -288,7 +288,7 @@ module _ (d : ℕ) (v : Bodies) (inside : SoundInside d v) where
   unfolding braces statements
   braces_covers i e xs j h =
       let o = ahead_some (is_mark OpenBrace) refl i e in
-      braces_by o.token o.rest o.is (until_brace_closed (Single (IsStmt d)) (one_more d v) stmts_begin one_more_adds (after i) xs j h)
+      braces_by o.token o.rest o.is (until_brace_closed (Single (IsStmt 200 d)) (one_more d v) stmts_begin one_more_adds (after i) xs j h)
 
 -- All levels
 
@@ -299,7 +299,7 @@ begun_covers p i x j h = elim (if_ok (begins_statement (ahead i)) _ _ _ h) [
   | inr a ↦ absurd (let e = a.1 in cc)
 ]
 
-deep_stmt : (d : ℕ) (i : Input) (x : Stmt) (j : Input) → Covers (IsStmt d) i j x → Deeper IsStmt (suc d) i j x
+deep_stmt : (d : ℕ) (i : Input) (x : Stmt) (j : Input) → Covers (IsStmt 200 d) i j x → Deeper (IsStmt 200) (suc d) i j x
 deep_stmt d i x j c = record { less = d; one_less = refl; covers = c }
 
 pub sound : (d : ℕ) → SoundInside d (bodies d)
@@ -313,7 +313,7 @@ sound (suc d) = record {
   block = λ i xs j t h. braces_covers d (bodies d) (sound d) i t xs j h;
 }
 
-pub statement_sound : (d : ℕ) (i j : Input) (x : Stmt) → statement d i ≡ Ok (x, j) → Covers (IsStmt d) i j x
+pub statement_sound : (d : ℕ) (i j : Input) (x : Stmt) → statement d i ≡ Ok (x, j) → Covers (IsStmt 200 d) i j x
 unfolding statement
 statement_sound d i j x h = statement_covers d (bodies d) (sound d) i x j h
 

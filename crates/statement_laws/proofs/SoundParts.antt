@@ -26,7 +26,7 @@ use Rattle.statement_laws.proofs.Wholes.{whole_covers, whole_begins, head_begins
 -- Locals
 
 module _ (d : ℕ) (t p : Token) (w : LocalWord) (n : List ℕ) (word_is : local_word_of (Some t) ≡ Some w) (name_is : name_of (Some p) ≡ Some n) where
-  initial_covers : (i : Input) (x : Option Expr) (j : Input) → initial d i ≡ Ok (x, j) → Covers (λ us next y. IsShort d (t ∷ p ∷ us) next (Local w n y)) i j x
+  initial_covers : (i : Input) (x : Option Expr) (j : Input) → initial d i ≡ Ok (x, j) → Covers (λ us next y. IsShort 200 d (t ∷ p ∷ us) next (Local w n y)) i j x
   unfolding initial
   initial_covers i x j h = elim (if_ok (is_mark Equal (ahead i)) _ _ _ h) [
     | inl a ↦ (
@@ -41,7 +41,7 @@ module _ (d : ℕ) (t p : Token) (w : LocalWord) (n : List ℕ) (word_is : local
     | inr a ↦ covers_to (record { text = []; way = way_none i; spelled = a_local t p w n refl refl word_is name_is a.0 }) a.1
   ]
 
-pub local_covers : (d : ℕ) (w : LocalWord) (i : Input) → local_word_of (ahead i) ≡ Some w → SoundAt (local d w) (IsShort d) i
+pub local_covers : (d : ℕ) (w : LocalWord) (i : Input) → local_word_of (ahead i) ≡ Some w → SoundAt (local d w) (IsShort 200 d) i
 unfolding local
 local_covers d w i e x j h =
     let t = ahead_gives local_word_of refl i w e in
@@ -54,7 +54,7 @@ local_covers d w i e x j h =
 -- `return`
 
 module _ (d : ℕ) (t : Token) (word_is : IsWord t ww.Return) where
-  returned_covers : (i : Input) (x : Stmt) (j : Input) → returned d (Some t) i ≡ Ok (x, j) → Covers (λ us next y. IsShort d (t ∷ us) next y) i j x
+  returned_covers : (i : Input) (x : Stmt) (j : Input) → returned d (Some t) i ≡ Ok (x, j) → Covers (λ us next y. IsShort 200 d (t ∷ us) next y) i j x
   unfolding returned
   returned_covers i x j h = elim (if_ok (gives_value (Some t) (ahead i)) _ _ _ h) [
     | inl a ↦ (
@@ -66,7 +66,7 @@ module _ (d : ℕ) (t : Token) (word_is : IsWord t ww.Return) where
     | inr a ↦ covers_to (record { text = []; way = way_none i; spelled = a_leave t refl refl word_is }) a.1
   ]
 
-pub leave_covers : (d : ℕ) (i : Input) → is_word ww.Return (ahead i) ≡ true → SoundAt (leave d) (IsShort d) i
+pub leave_covers : (d : ℕ) (i : Input) → is_word ww.Return (ahead i) ≡ true → SoundAt (leave d) (IsShort 200 d) i
 unfolding leave
 leave_covers d i e x j h =
     let t = ahead_some (is_word ww.Return) refl i e in
@@ -77,17 +77,17 @@ leave_covers d i e x j h =
 
 -- a statement with an end, behind its expression
 abbrev IsShortOf : ℕ → List Token → List Token → Option Token → Stmt → Type 0
-IsShortOf d ts us next x = IsShort d (ts ++ us) next x
+IsShortOf d ts us next x = IsShort 200 d (ts ++ us) next x
 
-nothing_behind : (d : ℕ) (ts : List Token) (i : Input) (x : Expr) (z : Stmt) (j : Input) → IsWhole d ts (ahead i) x → ((k : ℕ) → IsTarget k ts x → changes_on (last_of ts) (ahead i) ≡ false) → pure (Do x) i ≡ Ok (z, j) → Covers (IsShortOf d ts) i j z
+nothing_behind : (d : ℕ) (ts : List Token) (i : Input) (x : Expr) (z : Stmt) (j : Input) → IsWhole 200 d ts (ahead i) x → ((k : ℕ) → IsTarget k ts x → changes_on (last_of ts) (ahead i) ≡ false) → pure (Do x) i ≡ Ok (z, j) → Covers (IsShortOf d ts) i j z
 nothing_behind d ts i x z j p calm h =
-    let alone : IsShort d ts (ahead i) (Do x) = an_act x refl p calm in
-    covers_to (record { text = []; way = way_none i; spelled = subst (λ us. IsShort d us (ahead i) (Do x)) (sym (append-nil ts)) alone }) h
+    let alone : IsShort 200 d ts (ahead i) (Do x) = an_act x refl p calm in
+    covers_to (record { text = []; way = way_none i; spelled = subst (λ us. IsShort 200 d us (ahead i) (Do x)) (sym (append-nil ts)) alone }) h
 
 true_false : {A : Type 0} {b : Bool} → b ≡ true → b ≡ false → A
 true_false e f = absurd cc
 
-acted_covers : (d : ℕ) (ts : List Token) (x : Expr) (i : Input) (z : Stmt) (j : Input) → IsWhole d ts (ahead i) x → acted d ts (last_of ts) x i ≡ Ok (z, j) → Covers (IsShortOf d ts) i j z
+acted_covers : (d : ℕ) (ts : List Token) (x : Expr) (i : Input) (z : Stmt) (j : Input) → IsWhole 200 d ts (ahead i) x → acted d ts (last_of ts) x i ≡ Ok (z, j) → Covers (IsShortOf d ts) i j z
 unfolding acted
 acted_covers d ts x i z j p h = elim (if_ok (is_target ts) _ _ _ h) [
   | inl a ↦ (
@@ -99,7 +99,7 @@ acted_covers d ts x i z j p h = elim (if_ok (is_target ts) _ _ _ h) [
   | inr a ↦ nothing_behind d ts i x z j p (λ k q. true_false (spelled_target q) a.0) a.1
 ]
 
-pub act_covers : (d : ℕ) → Sound (act d) (IsShort d)
+pub act_covers : (d : ℕ) → Sound (act d) (IsShort 200 d)
 unfolding act
 act_covers d i x j h =
     let a = bind_ok (whole d i) _ _ h in
@@ -109,14 +109,14 @@ act_covers d i x j h =
 
 -- Parts of `for`
 
-simple_set_by : {d : ℕ} {i k l m j : Input} {n : List ℕ} {y : Expr} → Taken (is_word ww.Var) i k → Named n k l → Taken (is_mark Equal) l m → Covers (IsWhole d) m j y → Covers (IsSimple d) i j (Local AsVar n (Some y))
+simple_set_by : {d : ℕ} {i k l m j : Input} {n : List ℕ} {y : Expr} → Taken (is_word ww.Var) i k → Named n k l → Taken (is_mark Equal) l m → Covers (IsWhole 200 d) m j y → Covers (IsSimple 200 d) i j (Local AsVar n (Some y))
 simple_set_by {n = n} {y = y} t p o e = record {
   text = t.token ∷ p.token ∷ o.token ∷ e.text;
   way = way_then t.way (way_then p.way (way_then o.way e.way));
   spelled = simple_set t.token p.token o.token e.text n y refl refl t.is p.is o.is e.spelled;
 }
 
-simple_local_covers : (d : ℕ) (i : Input) → is_word ww.Var (ahead i) ≡ true → SoundAt (simple_local d) (IsSimple d) i
+simple_local_covers : (d : ℕ) (i : Input) → is_word ww.Var (ahead i) ≡ true → SoundAt (simple_local d) (IsSimple 200 d) i
 unfolding simple_local
 simple_local_covers d i e x j h =
     let t = ahead_some (is_word ww.Var) refl i e in
@@ -127,7 +127,7 @@ simple_local_covers d i e x j h =
     let y = whole_covers d b.at c.value c.at c.first in
     covers_to (simple_set_by taken (named (after i) a.at a.value a.first) (expected Equal a.at b.at b.value b.first) y) c.onward
 
-simple_change_covers : (d : ℕ) → Sound (simple_change d) (IsSimple d)
+simple_change_covers : (d : ℕ) → Sound (simple_change d) (IsSimple 200 d)
 unfolding simple_change
 simple_change_covers d i x j h =
     let a = bind_ok (target i) _ _ h in
@@ -138,14 +138,14 @@ simple_change_covers d i x j h =
       | inr c ↦ absurd (let e = c.1 in cc)
     ]
 
-pub simple_covers : (d : ℕ) → Sound (simple d) (IsSimple d)
+pub simple_covers : (d : ℕ) → Sound (simple d) (IsSimple 200 d)
 unfolding simple
 simple_covers d i x j h = elim (if_ok (is_word ww.Var (ahead i)) _ _ _ h) [
   | inl a ↦ simple_local_covers d i a.0 x j a.1
   | inr a ↦ simple_change_covers d i x j a.1
 ]
 
-pub simple_before_covers : (m : Mark) (d : ℕ) → Sound (simple_before m d) (IsMaybeSimple d)
+pub simple_before_covers : (m : Mark) (d : ℕ) → Sound (simple_before m d) (IsMaybeSimple 200 d)
 unfolding simple_before
 simple_before_covers m d i x j h = elim (if_ok (is_mark m (ahead i)) _ _ _ h) [
   | inl a ↦ covers_to (record { text = []; way = way_none i; spelled = IsMaybeSimple.none refl refl }) a.1
@@ -155,7 +155,7 @@ simple_before_covers m d i x j h = elim (if_ok (is_mark m (ahead i)) _ _ _ h) [
       covers_to (covers_as (λ ts next q. IsMaybeSimple.some b.value refl q) y) b.onward)
 ]
 
-pub test_covers : (d : ℕ) → Sound (test d) (IsMaybeWhole d)
+pub test_covers : (d : ℕ) → Sound (test d) (IsMaybeWhole 200 d)
 unfolding test
 test_covers d i x j h = elim (if_ok (is_mark Semicolon (ahead i)) _ _ _ h) [
   | inl a ↦ covers_to (record { text = []; way = way_none i; spelled = IsMaybeWhole.none refl refl }) a.1
@@ -169,13 +169,13 @@ test_covers d i x j h = elim (if_ok (is_mark Semicolon (ahead i)) _ _ _ h) [
 
 -- a condition, whatever follows it
 abbrev pub IsConditionBefore : ℕ → List Token → Option Token → Expr → Type 0
-IsConditionBefore d ts next x = IsCondition d ts x
+IsConditionBefore d ts next x = IsCondition 200 d ts x
 
-condition_by : {d : ℕ} {i k l j : Input} {x : Expr} → Taken (is_mark OpenParen) i k → Covers (IsWhole d) k l x → Taken (is_mark CloseParen) l j → Covers (IsConditionBefore d) i j x
+condition_by : {d : ℕ} {i k l j : Input} {x : Expr} → Taken (is_mark OpenParen) i k → Covers (IsWhole 200 d) k l x → Taken (is_mark CloseParen) l j → Covers (IsConditionBefore d) i j x
 condition_by {d = d} {x = x} o y z = record {
   text = o.token ∷ y.text ++ z.token ∷ [];
   way = way_then o.way (way_then y.way z.way);
-  spelled = parens o.token y.text z.token refl o.is (subst (λ n. IsWhole d y.text n x) (ahead_follow z.way) y.spelled) z.is;
+  spelled = parens o.token y.text z.token refl o.is (subst (λ n. IsWhole 200 d y.text n x) (ahead_follow z.way) y.spelled) z.is;
 }
 
 pub condition_covers : (d : ℕ) → Sound (condition d) (IsConditionBefore d)

@@ -10,13 +10,13 @@ use Rattle.grammar_laws.proofs.First.{Begins, expr_begins}
 use Rattle.grammar_laws.proofs.Reading.{whole_reads, reads_whole}
 use Rattle.statement_laws.proofs.Ways.{before, way_before, Sound, Complete}
 
-pub whole_covers : (d : ℕ) → Sound (whole d) (IsWhole d)
+pub whole_covers : (d : ℕ) → Sound (whole d) (IsWhole 200 d)
 whole_covers d i x j h = let r = whole_reads d i j x h in record { text = r.text; way = r.way; spelled = r.spelled }
 
-pub whole_goes : (d : ℕ) → Complete (whole d) (IsWhole d)
-whole_goes d ts next x j e p = reads_whole d (before ts j) j x (record { text = ts; way = way_before ts j; spelled = subst (λ n. IsWhole d ts n x) (sym e) p })
+pub whole_goes : (d : ℕ) → Complete (whole d) (IsWhole 200 d)
+whole_goes d ts next x j e p = reads_whole d (before ts j) j x (record { text = ts; way = way_before ts j; spelled = subst (λ n. IsWhole 200 d ts n x) (sym e) p })
 
-pub whole_begins : {d : ℕ} {ts : List Token} {next : Option Token} {x : Expr} → IsWhole d ts next x → Begins begins_expr ts
+pub whole_begins : {d : ℕ} {ts : List Token} {next : Option Token} {x : Expr} → IsWhole 200 d ts next x → Begins begins_expr ts
 whole_begins p = expr_begins p.spelled
 
 -- the first token of what is not empty

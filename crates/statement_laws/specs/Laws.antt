@@ -14,4 +14,4 @@ pub record Covers {A : Type 0} (Spells : List Token → Option Token → A → T
 
 -- a block, whatever follows it
 abbrev pub IsBlockBefore : ℕ → List Token → Option Token → List Stmt → Type 0
-IsBlockBefore d ts next xs = IsBlock d ts xs
+IsBlockBefore d ts next xs = IsBlock 200 d ts xs

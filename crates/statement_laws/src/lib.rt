@@ -14,14 +14,14 @@ ghost use Rattle.qml_grammar.specs.declared.mark.Mark.TheVariants.{OpenBrace};
 /// What is read as a statement, or as a block where a `{` begins it, is spelled by the productions with the
 /// levels that are left, before the token that follows it.
 pub fn reads_spelled()
-    ensures stmts { (d : ℕ) (i j : Input) (x : Stmt) → statement d i ≡ Ok (x, j) → Covers (IsStmt d) i j x }
+    ensures stmts { (d : ℕ) (i j : Input) (x : Stmt) → statement d i ≡ Ok (x, j) → Covers (IsStmt 200 d) i j x }
     ensures blocks { (d : ℕ) (i j : Input) (xs : List Stmt) → is_mark OpenBrace (ahead i) ≡ true → (bodies d).block i ≡ Ok (xs, j) → Covers (IsBlockBefore d) i j xs }
 {}
 
 /// What the productions spell before the token that follows is read, with exactly this rest. So tokens spell
 /// one statement at most, before what follows them.
 pub fn spelled_read()
-    ensures stmts { (d : ℕ) (i j : Input) (x : Stmt) → Covers (IsStmt d) i j x → statement d i ≡ Ok (x, j) }
+    ensures stmts { (d : ℕ) (i j : Input) (x : Stmt) → Covers (IsStmt 200 d) i j x → statement d i ≡ Ok (x, j) }
     ensures blocks { (d : ℕ) (i j : Input) (xs : List Stmt) → Covers (IsBlockBefore d) i j xs → (bodies d).block i ≡ Ok (xs, j) }
-    ensures once { (d : ℕ) (i j k : Input) (x y : Stmt) → Covers (IsStmt d) i j x → Covers (IsStmt d) i k y → (x ≡ y) × (j ≡ k) }
+    ensures once { (d : ℕ) (i j k : Input) (x y : Stmt) → Covers (IsStmt 200 d) i j x → Covers (IsStmt 200 d) i k y → (x ≡ y) × (j ≡ k) }
 {}
