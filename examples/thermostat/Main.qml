@@ -12,37 +12,38 @@ Rectangle {
     /* The measured and the wanted temperature, in tenths of a degree. */
     property int measured: 187
     property int wanted: 210
+    property int hysteresis: 5
     readonly property bool heating: measured < wanted - hysteresis
-    property int hysteresis: 0x05
     signal saved(int value, string room)
 
-    function clamp(value) {
-        if (value < 50) return 50;
-        else if (value > 300) return 300;
-        return value
-    }
+    function clamp(value) { return Math.max(50, Math.min(300, value)) }
+
+    // Numbers are whole: 215 / 10 is 21.
+    function degrees(value) { return value / 10 + "." + value % 10 + " \u00b0C" }
+
+    onSaved: console.log(room + ": " + degrees(value))
 
     Rectangle {
         id: bar
         x: 20
         y: 220 - height
         width: 40
-        height: Math.min(140, (wanted - 50) * 140 / 250)
+        height: (wanted - 50) * 140 / 250
         color: heating ? "#d8572a" : "#3b7dd8"
         border { width: 2; color: "#101318" }
-
-        onHeightChanged: {
-            var tenths = wanted % 10
-            console.log("wanted: " + wanted / 10 + "." + tenths + " \u00b0C");
-            for (var i = 0; i < 3; i++) blink(i)
-        }
     }
 
     MouseArea {
         anchors.fill: parent
-        onClicked: if (mouse.y < height / 2) wanted = clamp(wanted + 5); else wanted = clamp(wanted - 5)
-        onReleased: saved(wanted, "hall")
+
+        // The upper half makes it warmer, the lower half colder.
+        onClicked: {
+            var step = 5
+            if (mouse.y >= height / 2) step = -step
+            wanted = clamp(wanted + step)
+            saved(wanted, "hall")
+        }
     }
 
-    Component.onCompleted: saved(wanted, "hall")
+    Component.onCompleted: if (heating) console.log("heating from the start")
 }

@@ -8,6 +8,7 @@ use Rattle.qml_ast.specs.declared.decl.Init.TheOpen.{Init-F, Member-F}
 use Rattle.qml_ast.specs.declared.decl.Init.TheVariants as ii
 use Rattle.qml_ast.specs.declared.decl.Member.{Member, fold-roll-Member}
 use Rattle.qml_ast.specs.declared.decl.Member.TheVariants as mm
+use Rattle.qml_ast.specs.declared.expr.Expr.{Expr}
 use Rattle.qml_ast.specs.declared.param.MethodParam.{MethodParam}
 use Rattle.qml_ast.specs.declared.param.SignalParam.{SignalParam}
 use Rattle.qml_ast.specs.declared.path.Path.{Path}
@@ -19,6 +20,9 @@ pub record Other {A : Type 0} (apart : A → A) (x : A) (Is : A → Type 0) : Ty
   pub other : A
   pub alike : apart other ≡ apart x
   pub is : Is other
+
+pub apart-Expr : (x : Expr) → init_apart (ii.Expr x) ≡ ii.Expr x
+apart-Expr x = ap init_apart (sym (ii.rolls-Expr x)) ∙ fold-roll-Init Init Member Decl init_step member_step decl_step (Init-F.Expr x)
 
 pub apart-Object : (x : Decl) → init_apart (ii.Object x) ≡ ii.Object (decl_apart x)
 apart-Object x = ap init_apart (sym (ii.rolls-Object x)) ∙ fold-roll-Init Init Member Decl init_step member_step decl_step (Init-F.Object x)

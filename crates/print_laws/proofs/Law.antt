@@ -1,11 +1,12 @@
--- The law of the canonical print, from that of documents' pieces and the laws of pieces, tokens and documents.
-use Rattle.std.proofs.Common.{◌≡◌, ℕ, List, subst}
+-- The laws of the canonical print, from that of documents' pieces and the laws of pieces, tokens and documents.
+use Rattle.std.proofs.Common.{◌≡◌, ℕ, List, sym, subst}
 use Rattle.document_laws.proofs.Reading.{document_once}
 use Rattle.piece_laws.proofs.Lawful.{tokens_are_lawful}
 use Rattle.piece_laws.proofs.Whole.{pieces_are_lexed}
 use Rattle.piece_laws.specs.Pieces.{placed, start}
 use Rattle.print_laws.specs.Laws.{SpellsAlike}
 use Rattle.print_laws.proofs.Documents.{document_prints}
+use Rattle.print_laws.proofs.OneText.{one_text}
 use Rattle.qml_ast.specs.Alike.{IsAlike}
 use Rattle.qml_ast.specs.declared.document.Document.{Document}
 use Rattle.qml_grammar.specs.Canonical.{document_text}
@@ -37,3 +38,7 @@ pub only_alike : (bytes : List ℕ) (d other : Document) → Spells bytes d → 
 only_alike bytes d other s t =
     let a = spells_alike bytes d s in
     subst (λ x. IsAlike d x) (one_document (document_text d) a.other other a.spelled t) a.alike
+
+-- and what it is parsed as has the same canonical text
+pub same_again : (bytes : List ℕ) (d other : Document) → Spells bytes d → Spells (document_text d) other → document_text other ≡ document_text d
+same_again bytes d other s t = sym (one_text d other (only_alike bytes d other s t))

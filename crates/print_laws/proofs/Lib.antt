@@ -11,6 +11,7 @@ pub mod Law
 mod MemberForms
 mod MemberOpenings
 mod Members
+mod OneText
 mod Openings
 mod Parameters
 mod Runs

@@ -3,6 +3,7 @@
 #![tactic(auto)]
 
 pub mod built_in;
+pub mod laws;
 pub mod names;
 pub mod slot;
 mod table;
@@ -10,5 +11,6 @@ mod table;
 mod tests;
 
 pub use built_in::BuiltIn;
+pub use laws::the_table_is_sound;
 pub use names::{builtin, method, signal};
 pub use slot::{Initial, Kind, Slot, SlotInfo, find, slot_at, slot_count};
