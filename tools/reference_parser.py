@@ -528,7 +528,8 @@ class Parser:
             self.expect("=")
             self.expression()
             return
-        if not self.is_name() or self.token.word in STATEMENT_WORDS | LITERAL_WORDS | UNSUPPORTED_WORDS:
+        self.refuse_unsupported_word()
+        if not self.is_name() or self.token.word in STATEMENT_WORDS | LITERAL_WORDS:
             self.refuse()
         self.nodes = 0
         self.node()

@@ -12,7 +12,7 @@ use Rattle.qml_grammar.specs.Expressions.{inner, member, expr, whole}
 use Rattle.qml_grammar.specs.Ends.{ended}
 use Rattle.qml_grammar.specs.Inputs.{Input, Parser, ahead, refusal, refused, too_deep, take_token, expect, any_name}
 use Rattle.qml_grammar.specs.Lexemes.{Token, last_of, is_mark, is_word, operand_name_of, local_word_of, same_line, looked_up, assign_operator, step_operator}
-use Rattle.qml_grammar.specs.Statements.{is_target, target_name, target_in, target, assigned, stepped, step_or, change_or, initial, local as local_in, gives_value, returned, leave, acted, act, simple_local, simple_change, simple, simple_before, test, Bodies, begins_statement, begun, block_statement, empty_statement, condition, otherwise, choice, while_statement, for_body, for_step, for_test, for_statement, by_word, statement_in, one_more, goes_on_inside, statements, braces, bodies, statement}
+use Rattle.qml_grammar.specs.Statements.{is_target, no_target, target_name, target_in, target, assigned, stepped, step_or, change_or, initial, local as local_in, gives_value, returned, leave, acted, act, simple_local, simple_change, simple, simple_before, test, Bodies, begins_statement, begun, block_statement, empty_statement, condition, otherwise, choice, while_statement, for_body, for_step, for_test, for_statement, by_word, statement_in, one_more, goes_on_inside, statements, braces, bodies, statement}
 use Rattle.qml_grammar.specs.declared.mark.Mark.{Mark}
 use Rattle.qml_grammar.specs.declared.mark.Mark.TheVariants.{OpenBrace, CloseBrace, OpenParen, CloseParen, Semicolon, Dot, Equal}
 use Rattle.qml_grammar.specs.declared.word.Word.TheVariants as ww
@@ -49,9 +49,13 @@ sure_member : (Early : Type 0) (x : Expr) → Sure ⊥ Early (member x)
 unfolding member
 sure_member Early x = sure_followed ⊥ Early (sure_node Early) (λ u. sure_followed ⊥ Early (sure_name ⊥ Early) (λ n. sure_pure ⊥ Early _))
 
+sure_no_target : (Early : Type 0) → Sure ⊥ Early no_target
+unfolding no_target
+sure_no_target Early = sure_branch ⊥ Early (is_mark OpenBrace) (sure_refused ⊥ Early) (sure_operand_refused ⊥ Early)
+
 sure_target_name : (Early : Type 0) → Sure ⊥ Early target_name
 unfolding target_name
-sure_target_name Early = sure_choose ⊥ Early operand_name_of (λ n. sure_followed ⊥ Early (sure_node Early) (λ u. sure_pure ⊥ Early (Name n))) (sure_refused ⊥ Early)
+sure_target_name Early = sure_choose ⊥ Early operand_name_of (λ n. sure_followed ⊥ Early (sure_node Early) (λ u. sure_pure ⊥ Early (Name n))) (sure_no_target Early)
 
 member_less : (x : Expr) (i : Input) (y : Expr) (j : Input) → is_mark Dot (ahead i) ≡ true → member x i ≡ Ok (y, j) → length j.rest < length i.rest
 member_less x i y j t h = let a = ahead_some (is_mark Dot) refl i t in member_shorter (inner 0) (inner_local 0) x i y j a.token a.rest h

@@ -189,7 +189,9 @@ statement_cases =
     one (codes "Item { onFoo: for ({;;) a }") (Some (Syntax (at 1 20))) ∷
     one (codes "Item { onFoo: for (;;{) a }") (Some (Syntax (at 1 22))) ∷
     one (codes "Item { onFoo: for (;{;) a }") (Some (Unsupported (at 1 21))) ∷
-    one (codes "Item { onFoo: for (this;;) a }") (Some (Syntax (at 1 20))) ∷
+    one (codes "Item { onFoo: for (this;;) a }") (Some (Unsupported (at 1 20))) ∷
+    one (codes "Item { onFoo: for (;;function) a }") (Some (Unsupported (at 1 22))) ∷
+    one (codes "Item { onFoo: for (true = 1;;) a }") (Some (Syntax (at 1 20))) ∷
     many ((codes "Item { onFoo: for (;; i") ∷ (codes "++) a }") ∷ []) (Some (Syntax (at 2 1))) ∷
     one (codes "Item { onFoo: (a).b = 1 }") (Some (Syntax (at 1 21))) ∷
     one (codes "Item { onFoo: true.b = 1 }") (Some (Syntax (at 1 22))) ∷

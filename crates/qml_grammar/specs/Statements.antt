@@ -28,9 +28,13 @@ abbrev pub is_target : List Token → Bool
 is_target [] = false
 is_target (t ∷ ts) = is_some (operand_name_of (Some t)) && are_members ts
 
+-- that no target begins with the next token: as where a statement begins, but that no `{` is one of QML's there
+unfoldable pub no_target : Parser Expr
+no_target i = if is_mark OpenBrace (ahead i) then Err (refusal i) else Err (operand_refusal i)
+
 -- the first name of a target
 unfoldable pub target_name : Parser Expr
-target_name i = elim (operand_name_of (ahead i)) [ Some n ↦ (do take_node; pure (Name n)) i | None ↦ Err (refusal i) ]
+target_name i = elim (operand_name_of (ahead i)) [ Some n ↦ (do take_node; pure (Name n)) i | None ↦ no_target i ]
 
 unfoldable pub target_in : Parser Expr
 target_in = do

@@ -28,6 +28,18 @@ pub(crate) fn unboxed(value: Option<Boxed<Expr>>) -> Option<Expr>
 
 // Targets and their changes
 
+// That no target begins with the next token: as where a statement begins, but that no `{` is one of QML's there.
+#[tactic(auto, unfolding(qml_grammar::specs::Statements::no_target))]
+fn no_target(cursor: &Cursor<'_>) -> Result<Boxed<Expr>, DocFault>
+    ensures { IsReading (spec.no_target (input_of cursor.now)) result (input_of cursor.now) }
+{
+    if cursor.sees(Mark::OpenBrace) {
+        Err(cursor.refusal())
+    } else {
+        Err(cursor.operand_refusal())
+    }
+}
+
 // The first name of a target.
 #[tactic(auto, unfolding(qml_grammar::specs::Statements::target_name))]
 fn target_name(alloc: Global, cursor: &mut Cursor<'_>) -> Result<Boxed<Expr>, DocFault>
@@ -39,7 +51,7 @@ fn target_name(alloc: Global, cursor: &mut Cursor<'_>) -> Result<Boxed<Expr>, Do
             cursor.take_node()?;
             Ok(target)
         }
-        None => Err(cursor.refusal()),
+        None => no_target(cursor),
     }
 }
 

@@ -1,17 +1,17 @@
 -- Targets: names with dots between them, as they are read alone and as expressions.
-use Rattle.std.proofs.Common.{◌≡◌, ℕ, ◌+◌, ◌-◌, ◌≤◌, ◌&&◌, Bool, true, false, is_some, List, [], ◌∷◌, ◌++◌, Option, Some, None, Result, Ok, Err, refl, sym, ap, subst, subst₂, ◌∙◌, arith, append_assoc, zero-add}
+use Rattle.std.proofs.Common.{◌≡◌, ℕ, ◌+◌, ◌-◌, ◌≤◌, ◌&&◌, Bool, true, false, if◌then◌else◌, is_some, List, [], ◌∷◌, ◌++◌, Option, Some, None, Result, Ok, Err, refl, sym, ap, subst, subst₂, ◌∙◌, arith, append_assoc, zero-add}
 use Rattle.std.proofs.lemmas.List.{append-nil}
 use Rattle.qml_ast.specs.declared.expr.Expr.{Expr}
 use Rattle.qml_ast.specs.declared.expr.Expr.TheVariants.{Name, Member}
 use Rattle.qml_ast.specs.declared.fault.DocFault.{DocFault}
 use Rattle.qml_grammar.specs.ExpressionGrammar.{name as a_name, IsPostfix, primary, member as a_member, IsExpr, postfix, unary, product, sum, order, equality, conjunction, disjunction}
 use Rattle.qml_grammar.specs.Expressions.{expr, member}
-use Rattle.qml_grammar.specs.Inputs.{Input, ahead, refusal, take_node, any_name}
+use Rattle.qml_grammar.specs.Inputs.{Input, ahead, refusal, operand_refusal, take_node, any_name}
 use Rattle.qml_grammar.specs.Lexemes.{Lexeme, plain, word, Token, is_mark, is_name, name_of, operand_name_of, operand_name_of_lexeme, value_of_word, value_of_lexeme}
 use Rattle.qml_grammar.specs.StatementGrammar.{IsTarget, name, member as more_target}
-use Rattle.qml_grammar.specs.Statements.{are_members, is_target, target_name, target_in, target}
+use Rattle.qml_grammar.specs.Statements.{are_members, is_target, no_target, target_name, target_in, target}
 use Rattle.qml_grammar.specs.Words.{is_keyword, is_unsupported}
-use Rattle.qml_grammar.specs.declared.mark.Mark.TheVariants.{Dot}
+use Rattle.qml_grammar.specs.declared.mark.Mark.TheVariants.{OpenBrace, Dot}
 use Rattle.qml_grammar.specs.declared.word.Word.{Word}
 use Rattle.qml_grammar.specs.declared.word.Word.TheVariants.{True, False, Null, Undefined}
 use Rattle.grammar_laws.specs.Laws.{Way}
@@ -138,8 +138,16 @@ member_adds x i y j t h =
       stops = strength_most (ahead b.at);
     }) b.onward
 
-target_name_from : (i : Input) (x : Expr) (j : Input) (q : Option (List ℕ)) → operand_name_of (ahead i) ≡ q → ◌≡◌ {A = Result (Expr × Input) DocFault} (elim q [ Some n ↦ elim (take_node i) [ Ok r ↦ Ok (Name n, r.1) | Err e ↦ Err e ] | None ↦ Err (refusal i) ]) (Ok (x, j)) → Covers IsTarget 8 i j x
-target_name_from i x j None e h = absurd cc
+refused_by : (b : Bool) (e f : DocFault) (x : Expr) (j : Input) → ◌≡◌ {A = Result (Expr × Input) DocFault} (if b then Err e else Err f) (Ok (x, j)) → ⊥
+refused_by true e f x j h = absurd cc
+refused_by false e f x j h = absurd cc
+
+none_read : (i : Input) (x : Expr) (j : Input) → no_target i ≡ Ok (x, j) → ⊥
+unfolding no_target
+none_read i x j h = refused_by (is_mark OpenBrace (ahead i)) (refusal i) (operand_refusal i) x j h
+
+target_name_from : (i : Input) (x : Expr) (j : Input) (q : Option (List ℕ)) → operand_name_of (ahead i) ≡ q → ◌≡◌ {A = Result (Expr × Input) DocFault} (elim q [ Some n ↦ elim (take_node i) [ Ok r ↦ Ok (Name n, r.1) | Err e ↦ Err e ] | None ↦ no_target i ]) (Ok (x, j)) → Covers IsTarget 8 i j x
+target_name_from i x j None e h = absurd (none_read i x j h)
 target_name_from i x j (Some n) e h =
     let t = ahead_gives operand_name_of refl i n e in
     let b = bind_ok (take_node i) _ _ h in
