@@ -1,1 +1,4 @@
+pub mod Going
 pub mod Moved
+pub mod StatementFronts
+pub mod WholeFronts
