@@ -1,5 +1,5 @@
 -- Targets and what changes them: what stands before a fault can go on.
-use Rattle.std.proofs.Common.{◌≡◌, ℕ, suc, ◌+◌, ◌≤◌, ◌⊎◌, inl, inr, true, List, [], ◌∷◌, ◌++◌, Some, Ok, Err, refl, sym, subst, arith, append_assoc}
+use Rattle.std.proofs.Common.{◌≡◌, ℕ, suc, ◌+◌, ◌≤◌, ◌⊎◌, inl, inr, true, List, [], ◌∷◌, ◌++◌, Some, Ok, Err, refl, sym, subst, arith, append_assoc, codes}
 use Rattle.std.proofs.lemmas.List.{append-nil}
 use Rattle.qml_ast.specs.declared.expr.Expr.{Expr}
 use Rattle.qml_ast.specs.declared.expr.Expr.TheVariants.{Name, Member}
@@ -13,14 +13,15 @@ use Rattle.qml_grammar.specs.Expressions.{member, whole}
 use Rattle.qml_grammar.specs.Inputs.{Input, Parser, ahead, after, place, take_node, any_name, while_next}
 use Rattle.qml_grammar.specs.Lexemes.{Token, is_mark, same_line, looked_up, assign_operator, step_operator, last_of, name_of, operand_name_of}
 use Rattle.qml_grammar.specs.StatementGrammar.{IsTarget, name, member as more_target, IsChange, assign}
-use Rattle.qml_grammar.specs.Statements.{target_name, target_in, target, assigned, stepped, step_or, change_or}
-use Rattle.qml_grammar.specs.declared.mark.Mark.TheVariants.{Dot, Equal}
+use Rattle.qml_grammar.specs.Statements.{no_target, target_name, target_in, target, assigned, stepped, step_or, change_or}
+use Rattle.qml_grammar.specs.declared.mark.Mark.TheVariants.{OpenBrace, Dot, Equal}
 use Rattle.grammar_laws.specs.Faults.{IsFaultAt, CanGoOn}
 use Rattle.grammar_laws.specs.Laws.{Way}
 use Rattle.grammar_laws.proofs.Local.{before, onward, bind_err, chosen, not_chosen, chosen_in}
 use Rattle.grammar_laws.proofs.Reading.{full}
 use Rattle.grammar_laws.proofs.Tools.{bind_ok, ahead_some, ahead_gives, named, way_node, way_then, if_ok, same_value, same_input}
-use Rattle.grammar_laws.proofs.Viable.{node_once, name_once, refused_once}
+use Rattle.grammar_laws.proofs.Viable.{node_once, name_once, refused_once, operand_refused_once}
+use Rattle.statement_laws.proofs.Targets.{none_read}
 use Rattle.front_laws.proofs.Going.{HaltsOn, Halts, halts_here, halts_as, halts_behind, halts_then, halts_token, never_err, made_err, halts_while, Completes, completes, the_mark, one, some_name}
 use Rattle.front_laws.proofs.WholeFronts.{Calm, one_value, one_whole, whole_halts}
 
@@ -36,7 +37,7 @@ target_stays {k = k} {ts = ts} {x = x} p = record { others = []; nodes = k; valu
 
 -- a name for the one that is missing
 name_goes_on : CanGoOn IsTarget []
-name_goes_on = record { others = some_name ∷ []; nodes = 1; value = Name []; spelled = name some_name [] refl refl refl refl }
+name_goes_on = record { others = some_name ∷ []; nodes = 1; value = Name (codes "a"); spelled = name some_name (codes "a") refl refl refl refl }
 
 nothing_more : TargetGoesOn []
 nothing_more = record { on = λ k ts x p. subst (CanGoOn IsTarget) (sym (append-nil ts)) (target_stays p) }
@@ -46,8 +47,8 @@ dot_goes_on o is = record {
   on = λ k ts x p. record {
     others = some_name ∷ [];
     nodes = k + 1;
-    value = Member x [];
-    spelled = more_target k ts o some_name x [] refl (append_assoc ts (o ∷ []) (some_name ∷ [])) refl p is refl;
+    value = Member x (codes "a");
+    spelled = more_target k ts o some_name x (codes "a") refl (append_assoc ts (o ∷ []) (some_name ∷ [])) refl p is refl;
   };
 }
 
@@ -76,11 +77,18 @@ member_more x i y k e t h later =
     let to = subst (λ l. Way i l 1 (o.token ∷ n.token ∷ [])) (same_input (Member x b.value) y b.at k b.onward) w in
     halts_behind to (halts_as (λ us g. member_goes_on o.token n.token b.value us o.is n.is g) later)
 
+no_target_place : (i : Input) (e : DocFault) → no_target i ≡ Err e → IsFaultAt e (place i)
+unfolding no_target
+no_target_place i e h = elim (if_ok (is_mark OpenBrace (ahead i)) _ _ _ h) [
+  | inl a ↦ (refused_once {A = Expr} i e a.1).place
+  | inr a ↦ (operand_refused_once {A = Expr} i e a.1).place
+]
+
 name_fails : (i : Input) (e : DocFault) → target_name i ≡ Err e → IsFaultAt e (place i)
 unfolding target_name
 name_fails i e h = elim (chosen_in (operand_name_of (ahead i)) _ _ _ h) [
   | chosen n o g ↦ (node_once i e (made_err take_node (λ u. Name n) i e g)).place
-  | not_chosen o g ↦ (refused_once {A = Expr} i e g).place
+  | not_chosen o g ↦ no_target_place i e g
 ]
 
 -- the name that a target begins with
@@ -100,7 +108,7 @@ name_reads i x j h = elim (chosen_in (operand_name_of (ahead i)) _ _ _ h) [
         way = subst (λ l. Way i l 1 (t.token ∷ [])) (same_input (Name n) x b.at j b.onward) (way_node i b.at b.value t.token t.rest b.first);
         is = name t.token n refl refl (sym (same_value (Name n) x b.at j b.onward)) t.is;
       })
-  | not_chosen o g ↦ absurd cc
+  | not_chosen o g ↦ absurd (none_read i x j g)
 ]
 
 target_in_halts : (i : Input) (e : DocFault) → target_in i ≡ Err e → Halts (CanGoOn IsTarget) i e

@@ -1,5 +1,5 @@
 -- Readings that fail, where the tokens before the fault can go on.
-use Rattle.std.proofs.Common.{◌≡◌, ℕ, zero, suc, ◌+◌, ◌≤◌, inl, inr, Bool, true, List, [], ◌∷◌, ◌++◌, length, Option, Some, Result, Ok, Err, refl, sym, subst, append_assoc}
+use Rattle.std.proofs.Common.{◌≡◌, ℕ, zero, suc, ◌+◌, ◌≤◌, inl, inr, Bool, true, List, [], ◌∷◌, ◌++◌, length, Option, Some, Result, Ok, Err, refl, sym, subst, append_assoc, codes}
 use Rattle.std.proofs.lemmas.List.{append-nil}
 use Rattle.qml_ast.specs.declared.fault.DocFault.{DocFault}
 use Rattle.qml_grammar.specs.Ends.{since, may_end, end_behind, ended}
@@ -185,7 +185,7 @@ abbrev pub one : Token
 one = put (integer 1)
 
 abbrev pub some_name : Token
-some_name = put (plain [])
+some_name = put (plain (codes "a"))
 
 same_itself : (m : Mark) → same_mark m m ≡ true
 unfolding same_mark mark_number

@@ -1,5 +1,5 @@
 -- Statements with an end, and the parts of `if`, `while` and `for`: what stands before a fault can go on.
-use Rattle.std.proofs.Common.{◌≡◌, ℕ, suc, inl, inr, true, false, List, [], ◌∷◌, ◌++◌, Option, Some, None, Err, refl, sym, ap, ◌∙◌, arith, append_assoc}
+use Rattle.std.proofs.Common.{◌≡◌, ℕ, suc, inl, inr, true, false, List, [], ◌∷◌, ◌++◌, Option, Some, None, Err, refl, sym, ap, ◌∙◌, arith, append_assoc, codes}
 use Rattle.qml_ast.specs.declared.expr.Expr.{Expr}
 use Rattle.qml_ast.specs.declared.fault.DocFault.{DocFault}
 use Rattle.qml_ast.specs.declared.stmt.LocalWord.{LocalWord}
@@ -37,7 +37,7 @@ abbrev pub IsShortFront : ℕ → List Token → Type 0
 IsShortFront d = Completes Brace (λ most. IsShort most (suc d))
 
 local_goes_on : (d : ℕ) (t : Token) (w : LocalWord) → local_word_of (Some t) ≡ Some w → IsShortFront d (t ∷ [])
-local_goes_on d t w word_is = completes (some_name ∷ []) 200 (Local w [] None) (omega arith) refl (λ next b. a_local t some_name w [] refl refl word_is refl (brace_no_equal next b))
+local_goes_on d t w word_is = completes (some_name ∷ []) 200 (Local w (codes "a") None) (omega arith) refl (λ next b. a_local t some_name w (codes "a") refl refl word_is refl (brace_no_equal next b))
 
 module _ (d : ℕ) (t p : Token) (w : LocalWord) (n : List ℕ) (word_is : local_word_of (Some t) ≡ Some w) (name_is : name_of (Some p) ≡ Some n) where
   set_goes_on : (o : Token) (us : List Token) → IsMark o Equal → IsWholeFront d us → IsShortFront d (t ∷ p ∷ o ∷ us)
@@ -125,7 +125,7 @@ module _ (d : ℕ) (t : Token) (word_is : IsWord t ww.Var) where
   unfolding simple_local
   simple_local_halts i e rest h =
       halts_token _ i t rest
-      (λ u k f to g. halts_name _ k (simple_put some_name [] (t ∷ []) (some_name ∷ the_mark Equal ∷ one ∷ []) refl refl)
+      (λ u k f to g. halts_name _ k (simple_put some_name (codes "a") (t ∷ []) (some_name ∷ the_mark Equal ∷ one ∷ []) refl refl)
       (λ p n l f2 name_is at g2. halts_expect Equal _ l (simple_put p n (t ∷ p ∷ []) (the_mark Equal ∷ one ∷ []) name_is refl)
       (λ o u3 m f3 is by g3. halts_as (λ us w. simple_set_goes_on p o n us name_is is w) (whole_halts d m f3 (made_err (whole d) (λ y. Local AsVar n (Some y)) m f3 g3))) f2 g2) f g) e h
 

@@ -1,5 +1,5 @@
 -- Where the reading of an expression fails, the tokens before can still go on, level by level.
-use Rattle.std.proofs.Common.{◌≡◌, ℕ, zero, suc, ◌+◌, true, false, is_some, List, [], ◌∷◌, ◌++◌, Option, Some, Result, Ok, Err, pos, refl, sym, ap, subst, ◌∙◌, arith, append_assoc, append-nil}
+use Rattle.std.proofs.Common.{◌≡◌, ℕ, zero, suc, ◌+◌, true, false, is_some, List, [], ◌∷◌, ◌++◌, Option, Some, Result, Ok, Err, pos, codes, refl, sym, ap, subst, ◌∙◌, arith, append_assoc, append-nil}
 use Rattle.qml_ast.specs.declared.expr.BinOp.{BinOp}
 use Rattle.qml_ast.specs.declared.expr.Expr.{Expr}
 use Rattle.qml_ast.specs.declared.expr.Expr.TheVariants.{Lit, Member, Call, Unary, Binary, And, Or, Cond}
@@ -37,7 +37,7 @@ abbrev one : Token
 one = record { lexeme = integer 1; span = record { line = 1; col = 1 } }
 
 abbrev some_name : Token
-some_name = record { lexeme = plain []; span = record { line = 1; col = 1 } }
+some_name = record { lexeme = plain (codes "a"); span = record { line = 1; col = 1 } }
 
 abbrev the_mark : Mark → Token
 the_mark m = record { lexeme = mark m; span = record { line = 1; col = 1 } }
@@ -148,7 +148,7 @@ module _ (d : ℕ) (v : Inner) (inside : SoundInside d v) (local : LocalInside v
   member_fails x i e t h =
       let o = ahead_some (is_mark Dot) refl i t in
       fails_node _ _ i o.token o.rest (behind_any (λ k ts p. stays k x ts p)) (λ u k f g.
-      fails_named (λ n. Member x n) _ k (behind_any (λ n ts p. goes (n + 1) (Member x []) (ts ++ o.token ∷ []) (some_name ∷ []) (sym (append_assoc ts (o.token ∷ []) (some_name ∷ []))) (a_member n ts o.token some_name x [] refl refl refl p o.is refl))) f g) e h
+      fails_named (λ n. Member x n) _ k (behind_any (λ n ts p. goes (n + 1) (Member x (codes "a")) (ts ++ o.token ∷ []) (some_name ∷ []) (sym (append_assoc ts (o.token ∷ []) (some_name ∷ []))) (a_member n ts o.token some_name x (codes "a") refl refl refl p o.is refl))) f g) e h
 
   argument_fails : (c : ℕ) → d ≡ suc c → (xs : List Expr) (i : Input) (e : DocFault) → is_mark Comma (ahead i) ≡ true → argument v xs i ≡ Err e → FailsAt (argument v xs) (GoesOnBehind (AreArguments c) xs) i e
   unfolding argument

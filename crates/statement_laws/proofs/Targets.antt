@@ -142,7 +142,7 @@ refused_by : (b : Bool) (e f : DocFault) (x : Expr) (j : Input) → ◌≡◌ {A
 refused_by true e f x j h = absurd cc
 refused_by false e f x j h = absurd cc
 
-none_read : (i : Input) (x : Expr) (j : Input) → no_target i ≡ Ok (x, j) → ⊥
+pub none_read : (i : Input) (x : Expr) (j : Input) → no_target i ≡ Ok (x, j) → ⊥
 unfolding no_target
 none_read i x j h = refused_by (is_mark OpenBrace (ahead i)) (refusal i) (operand_refusal i) x j h
 
