@@ -42,6 +42,8 @@ fn tokens_of_each_kind(rt: HostRuntime) -> Result<(), Fail> {
     for (text, wanted) in [
         ("", [].as_slice()),
         (" \t\r\n", [].as_slice()),
+        ("\u{feff}", [].as_slice()),
+        ("\u{feff}a", [(Name, "a")].as_slice()),
         ("// é /* \" \r x", [].as_slice()),
         ("/* // \n * / ** é*/", [].as_slice()),
         ("/**/a/***/", [(Name, "a")].as_slice()),
@@ -149,6 +151,31 @@ fn places_of_tokens(rt: HostRuntime) -> Result<(), Fail> {
     for (token, (line, col)) in tokens.as_slice().iter().zip(wanted) {
         assert_eq!(rt; token.span, Span { line, col });
     }
+    Ok(())
+}
+
+// A token of a text whose offset, end, line and column are these.
+fn token(kind: TokenKind, [start, end]: [usize; 2], [line, col]: [u32; 2]) -> Token {
+    Token {
+        kind,
+        start,
+        end,
+        span: Span { line, col },
+    }
+}
+
+#[test]
+fn a_scanner_gives_one_token_after_the_other(rt: HostRuntime) -> Result<(), Fail> {
+    let bytes = "\u{feff}id /* é */\n'a' ".as_bytes();
+    assert!(rt; bytes.len() < 100);
+    let mut scanner = Scanner::new(bytes)?;
+    let first = scanner.next_token()?;
+    assert_eq!(rt; first, Some(token(Name, [3, 5], [1, 4])));
+    let second = scanner.next_token()?;
+    assert_eq!(rt; second, Some(token(Text, [15, 18], [2, 1])));
+    let third = scanner.next_token()?;
+    assert_eq!(rt; third, None);
+    assert_eq!(rt; end_place(bytes), Span { line: 2, col: 5 });
     Ok(())
 }
 

@@ -69,6 +69,8 @@ const EXPRESSIONS: &[(&str, &str)] = &[
     ("f(a,(b),g(c,d))", "f(a, b, g(c, d))"),
     ("f(a)(b).c(d, e)", "f(a)(b).c(d, e)"),
     ("- a", "-a"),
+    ("+ a", "+a"),
+    ("! a", "!a"),
     ("-(-a)", "- -a"),
     ("- -a", "- -a"),
     ("+(+a)", "+ +a"),
@@ -98,6 +100,7 @@ const EXPRESSIONS: &[(&str, &str)] = &[
     ("(a==b)<c", "(a == b) < c"),
     ("a+-b", "a + -b"),
     ("a- -b", "a - -b"),
+    ("(-1)-(-1)", "-1 - -1"),
     ("a<b<=c>d>=e", "a < b <= c > d >= e"),
     ("(a<b)==(c!=d)", "a < b == (c != d)"),
     ("a===b!==c", "a === b !== c"),
@@ -129,6 +132,8 @@ fn expressions_print_and_parse_again(rt: HostRuntime) -> Result<(), Fail> {
 
 const STATEMENTS: &[(&str, &str)] = &[
     ("var a", "var a;"),
+    ("var a=b", "var a = b;"),
+    ("let a", "let a;"),
     ("let a=1", "let a = 1;"),
     ("const if=b", "const if = b;"),
     ("const a", "const a;"),
@@ -139,6 +144,7 @@ const STATEMENTS: &[(&str, &str)] = &[
     ("a*=b", "a *= b;"),
     ("a/=b", "a /= b;"),
     ("a++", "a++;"),
+    ("a--", "a--;"),
     ("a.b--;;", "a.b--;"),
     ("f()", "f();"),
     ("(a)", "a;"),
@@ -168,6 +174,7 @@ const STATEMENTS: &[(&str, &str)] = &[
         "if (a) {\n        if (b) c;\n    } else d;",
     ),
     ("if(a);else;", "if (a) ; else ;"),
+    ("if(a)return;else b", "if (a) return; else b;"),
     ("while(a)b", "while (a) b;"),
     ("while(a){b}", "while (a) {\n        b;\n    }"),
     ("while(true);", "while (true) ;"),
@@ -176,6 +183,9 @@ const STATEMENTS: &[(&str, &str)] = &[
     ("for(;;){;}", "for (;;) {\n        ;\n    }"),
     ("for(i=0;;i+=2){}", "for (i = 0;; i += 2) {\n    }"),
     ("for(;a;)for(a--;;)b", "for (; a;) for (a--;;) b;"),
+    ("for(a.b=1;b;c-=1);", "for (a.b = 1; b; c -= 1) ;"),
+    ("for(a*=2;;b/=2);", "for (a *= 2;; b /= 2) ;"),
+    ("for(;;)if(a)b;else c", "for (;;) if (a) b; else c;"),
 ];
 
 #[test]
@@ -193,20 +203,29 @@ const MEMBERS: &[(&str, &str)] = &[
     ("property int a", "    property int a\n"),
     ("property   var a:-1;", "    property var a: -1\n"),
     ("property int a:(1)", "    property int a: 1\n"),
+    ("property A a:B{}", "    property A a: B {\n    }\n"),
+    ("readonly property int a", "    readonly property int a\n"),
+    (
+        "readonly property int a:b+1",
+        "    readonly property int a: b + 1\n",
+    ),
     (
         "readonly property A a:B{}",
         "    readonly property A a: B {\n    }\n",
     ),
     ("signal s", "    signal s\n"),
     ("signal s()", "    signal s\n"),
+    ("signal s(int a)", "    signal s(int a)\n"),
     ("signal s(int a,A b)", "    signal s(int a, A b)\n"),
     ("signal s\n(int a)", "    signal s(int a)\n"),
     ("function f(){}", "    function f() {\n    }\n"),
+    ("function f(a){}", "    function f(a) {\n    }\n"),
     (
         "function f(a,b){return a+b}",
         "    function f(a, b) {\n        return a + b;\n    }\n",
     ),
     ("a.b:1", "    a.b: 1\n"),
+    ("a.b:C{}", "    a.b: C {\n    }\n"),
     ("a{b:1;c:2}", "    a.b: 1\n    a.c: 2\n"),
     ("a{}", ""),
     (
@@ -234,6 +253,10 @@ const MEMBERS: &[(&str, &str)] = &[
         "    A {\n        function f() {\n            if (a) {\n                b;\n            }\n        }\n    }\n",
     ),
     ("Component.onA:b", "    Component.onA: b;\n"),
+    (
+        "Component.onA:{b}",
+        "    Component.onA: {\n        b;\n    }\n",
+    ),
     (
         "A{B{}C{}}",
         "    A {\n        B {\n        }\n        C {\n        }\n    }\n",
@@ -344,6 +367,7 @@ Item {
     MouseArea {
         id: more
         x: 20; y: 180
+        enabled: speed < 3
         width: (parent.width - 60) / 2; height: 40
         onClicked: faster(1)
         onPressed: {

@@ -45,6 +45,41 @@ fn each_member(rt: HostRuntime) -> Result<(), Fail> {
     Ok(())
 }
 
+const PLACES: &[(&str, &str)] = &[
+    // A grouped initialiser stands at its inner name.
+    (
+        "Item { anchors { fill: parent; foo: 1 } }",
+        "Item 1:1 {anchors.fill 1:18 = parent 1:24; anchors.foo 1:32 = 1 1:37; }",
+    ),
+    // A literal stands at its own token, in parentheses too; another value at its first one.
+    (
+        "Item { x: (('a')); y: (1).a; z: (-1); w: -1; v: (null) }",
+        "Item 1:1 {x 1:8 = a 1:13; y 1:20 = expression 1:23; z 1:30 = expression 1:33; \
+        w 1:39 = expression 1:42; v 1:46 = null 1:50; }",
+    ),
+    // Members that go on over the end of a line.
+    (
+        "Item { p: A\n{ } signal s\n(int a)\nonFoo: a\n= 1\nonBar: a\n(b) }",
+        "Item 1:1 {p 1:8 = A 1:11 {} 1:11; signal s 2:12 int 3:2 a 3:6; \
+        onFoo 4:1 does assignment; onBar 6:1 does do; }",
+    ),
+    // The three bytes of a byte order mark count; a carriage return ends no line.
+    (
+        "\u{feff}import QtQuick 2.015\r\nItem\r{ }",
+        "QtQuick 2.15 1:11; Item 2:1 {}",
+    ),
+];
+
+#[test]
+fn places_in_a_document(rt: HostRuntime) -> Result<(), Fail> {
+    for (text, wanted) in PLACES {
+        let document = parsed(&rt, rt.alloc(), text.as_bytes())?;
+        let told = told_document(rt.alloc(), &document)?;
+        assert_eq!(rt; told.as_str(), *wanted, "{text}");
+    }
+    Ok(())
+}
+
 const LAWFUL: &[&str] = &[
     // Tokens
     "Item { }",
@@ -59,11 +94,14 @@ const LAWFUL: &[&str] = &[
     "import\nQtQuick\n02.05\nimport QtQuick 2.015;Item { }",
     // Ends
     "Item { x: 1\ny: 2 }",
+    "Item { x: 1 /*\n*/ y: 2 }",
     "Item { x: 1; y: 2; }",
     "Item { onXChanged: a;; }",
     "Item { onXChanged: ;; }",
     "Item { onXChanged: { }; }",
     "Item { onXChanged: if (a) { }; }",
+    "Item { onXChanged: if (a) b;; x: 1 }",
+    "Item { onXChanged: return;; }",
     "Item { onXChanged: a; x: 1 }",
     "Item { onXChanged: { } x: 1 }",
     "Item { onXChanged: if (a) { } x: 1 }",
@@ -77,15 +115,20 @@ const LAWFUL: &[&str] = &[
     "Item { p: A\n{ } }",
     "Item { signal s\n(int a) }",
     "Item { onFoo: { a\n= 1\nb\n(c) } }",
+    "Item { onFoo: { A\n{ } A.B\n{ } a = B.C\n{ } } }",
     "Item\n{\nproperty\nint\na\n:\n1\nreadonly\nproperty\nint\nb }",
     // Groups
     "Item { anchors { fill: parent; foo: 1 } }",
     "Item { foo { } }",
+    "Item { border { } onFoo { x: 1 } }",
     "Item { g { else: 1; default: 2; id: 3; function: 4; enum: 5; required: 6; property: 7; if: 8 } }",
     "Item { states.x: 1; states { x: 1 } property var states }",
     // Words that are names
     "Item { id: true }",
     "Item { if: 1 }",
+    "Item { var: 1; let: 2; const: 3; if: 4; while: 5; for: 6; return: 7; true: 8; false: 9; null: 10; undefined: 11 }",
+    "Item { switch: 1; do: 2; break: 3; continue: 4; try: 5; throw: 6; new: 7; delete: 8; typeof: 9; instanceof: 10 }",
+    "Item { in: 1; void: 2; with: 3; class: 4; this: 5 }",
     "Item { if: 1; Foo: 2; import: 3; on: 4; alias: 5; as: 6; true: 7; this.x: 8; x.else: 9 }",
     "Item { property int while; property var function; property if a; signal var }",
     "Item { x: a.if.function.else.true }",
@@ -144,14 +187,18 @@ const OUT_OF_PLACE: &[(&str, &str)] = &[
     ("Item { }\nimport QtQuick 2.5", "Syntax 2:1"),
     ("item { }", "Syntax 1:1"),
     ("\u{feff}item { }", "Syntax 1:4"),
+    ("_a { }", "Syntax 1:1"),
     ("A.b { }", "Syntax 1:2"),
     ("A.B", "Syntax 1:2"),
     ("A.B on x { }", "Syntax 1:2"),
     ("Foo on x { }", "Syntax 1:5"),
     ("import", "Syntax 1:7"),
     ("import ;", "Syntax 1:8"),
+    ("import QtQuick", "Syntax 1:15"),
+    ("import QtQuick.", "Syntax 1:16"),
     ("import QtQuick 2", "Syntax 1:16"),
     ("import QtQuick . 5", "Syntax 1:18"),
+    ("import Foo . 5", "Syntax 1:14"),
     ("import QtQuick as Q", "Syntax 1:16"),
     ("import QtQuick 2.5; as Q", "Syntax 1:21"),
     ("import QtQuick 2.5;\nas Q", "Syntax 2:1"),
@@ -164,6 +211,8 @@ const OUT_OF_PLACE: &[(&str, &str)] = &[
     ("Item { onXChanged: a;;; }", "Syntax 1:23"),
     ("Item { onXChanged: ;;; }", "Syntax 1:22"),
     ("Item { onXChanged: { };; }", "Syntax 1:24"),
+    ("Item { onXChanged: if (a) b;;; }", "Syntax 1:30"),
+    ("Item { onXChanged: return;;; }", "Syntax 1:28"),
     ("Item { x: 1;; }", "Syntax 1:13"),
     ("Item { Item { }; }", "Syntax 1:16"),
     ("Item { g { }; }", "Syntax 1:13"),
@@ -201,8 +250,10 @@ const OUT_OF_PLACE: &[(&str, &str)] = &[
     ("Item { id { } }", "Syntax 1:11"),
     ("Item { property: 1 }", "Syntax 1:16"),
     ("Item { property int: 1 }", "Syntax 1:20"),
+    ("Item { property int }", "Syntax 1:21"),
     ("Item { property a.b c }", "Syntax 1:18"),
     ("Item { readonly int a }", "Syntax 1:17"),
+    ("Item { readonly: 1 }", "Syntax 1:16"),
     ("Item { readonly required property int a }", "Syntax 1:17"),
     ("Item { signal: 1 }", "Syntax 1:14"),
     ("Item { signal s: 1 }", "Syntax 1:16"),
@@ -226,18 +277,25 @@ const OUT_OF_PLACE: &[(&str, &str)] = &[
     ("Item { A.b { } }", "Syntax 1:12"),
     ("Item { A.b.c { } }", "Syntax 1:11"),
     ("Item { a.B { } }", "Syntax 1:12"),
+    ("Item { a.b { c: 1 } }", "Syntax 1:12"),
     ("Item { A.b on x { } }", "Syntax 1:12"),
     ("Item { Component.onCompleted { } }", "Syntax 1:30"),
     ("Item { _a { } }", "Syntax 1:11"),
     ("Item { x: _a { } }", "Syntax 1:14"),
     ("Item { x: foo { } }", "Syntax 1:15"),
     ("Item { x: A.b { } }", "Syntax 1:15"),
+    ("Item { x: a.b.c { } }", "Syntax 1:17"),
+    ("Item { x: A.onFoo { } }", "Syntax 1:19"),
+    ("Item { x: 1 + A.B { } }", "Syntax 1:19"),
+    ("Item { onFoo: A.B { } }", "Syntax 1:19"),
     ("Item { x: a.B\n{ } }", "Syntax 2:1"),
     ("Item { foo on x { } }", "Syntax 1:12"),
     ("Item { p: Foo on x { } }", "Syntax 1:15"),
+    ("Item { p: A.B on x { } }", "Syntax 1:15"),
     ("Item { g { A { } } }", "Syntax 1:14"),
     ("Item { g { A on x { } } }", "Syntax 1:14"),
     ("Item { g { a.b: 1 } }", "Syntax 1:13"),
+    ("Item { g { A.B { } } }", "Syntax 1:13"),
     ("Item { g { property int a } }", "Syntax 1:21"),
     // Expressions
     ("Item { x: a in b }", "Syntax 1:13"),
@@ -261,6 +319,7 @@ const OUT_OF_PLACE: &[(&str, &str)] = &[
     ("Item { onFoo: f() = 1 }", "Syntax 1:19"),
     ("Item { onFoo: (a) = 1 }", "Syntax 1:19"),
     ("Item { onFoo: 1++ }", "Syntax 1:16"),
+    ("Item { onFoo: true.b = 1 }", "Syntax 1:22"),
     ("Item { onFoo: ++a }", "Syntax 1:15"),
     ("Item { onFoo: { var if; if = 1 } }", "Syntax 1:28"),
     ("Item { onFoo: { var true; true = 1 } }", "Syntax 1:32"),
@@ -279,6 +338,10 @@ const OUT_OF_PLACE: &[(&str, &str)] = &[
     ("Item { onClicked: for (;;f()) a }", "Syntax 1:27"),
     ("Item { onClicked: for (;;{) a }", "Syntax 1:26"),
     ("Item { onClicked: for (;;let i = 0) a }", "Syntax 1:26"),
+    // Of two faults the earlier one
+    ("Item { x: ) [ }", "Syntax 1:11"),
+    ("Item { ; 0.5 }", "Syntax 1:8"),
+    ("Item { x: a b + this }", "Syntax 1:13"),
 ];
 
 #[test]
@@ -385,6 +448,7 @@ const ONLY_QML: &[(&str, &str)] = &[
     // `alias`
     ("Item { property alias a: b }", "Unsupported 1:17"),
     ("Item { property alias a }", "Unsupported 1:17"),
+    ("Item { property alias: 1 }", "Unsupported 1:17"),
     ("Item { readonly property alias a: b }", "Unsupported 1:26"),
     // Dotted type names
     ("A.B { }", "Unsupported 1:1"),
@@ -392,6 +456,7 @@ const ONLY_QML: &[(&str, &str)] = &[
     ("Item { A.B { } }", "Unsupported 1:8"),
     ("Item { A.B\n{ } }", "Unsupported 1:8"),
     ("Item { A.b.C { } }", "Unsupported 1:8"),
+    ("Item { A.onFoo.B { } }", "Unsupported 1:8"),
     ("Item { A.B on x { } }", "Unsupported 1:8"),
     ("Item { A.b.C on x { } }", "Unsupported 1:8"),
     ("Item { x: A.B { } }", "Unsupported 1:11"),
@@ -530,6 +595,8 @@ const BEGINNINGS: [&str; 8] = [
     "var", "let", "const", "if", "else", "while", "for", "return",
 ];
 
+const LITERALS: [&str; 4] = ["true", "false", "null", "undefined"];
+
 // The word between both parts of each text has the text's answer.
 fn word_answered(
     rt: &impl Abort,
@@ -572,19 +639,33 @@ const FOREIGN_ROWS: &[([&str; 2], &str)] = &[
     (["Item { onFoo: for (", ";;) a }"], "Syntax 1:20"),
     (["Item { onFoo: for (;;", ") a }"], "Syntax 1:22"),
     (["", " { }"], "Syntax 1:1"),
+];
+
+// Where neither an expression nor a statement begins, a word is a name.
+const NAME_ROWS: &[([&str; 2], &str)] = &[
     (["Item { x: a.", " }"], "ok"),
-    (["Item { id: ", " }"], "ok"),
+    (["Item { a.", ": 1 }"], "ok"),
     (["Item { g { ", ": 1 } }"], "ok"),
-    (["Item { property int ", "; signal s(int a) }"], "ok"),
-    (["Item { signal ", "; function a(b) { } }"], "ok"),
+    (["Item { id: ", " }"], "ok"),
+    (["Item { property int ", "; x: 1 }"], "ok"),
+    (["Item { property ", " a }"], "ok"),
+    (["Item { signal ", "; x: 1 }"], "ok"),
+    (["Item { signal s(int ", ") }"], "ok"),
+    (["Item { signal s(", " a) }"], "ok"),
+    (["Item { function ", "(a) { } }"], "ok"),
     (["Item { function f(", ") { } }"], "ok"),
+    (["Item { function f(a, ", ") { } }"], "ok"),
+    (["Item { onFoo: a.", " = 1 }"], "ok"),
     (["Item { onFoo: var ", " }"], "ok"),
+    (["Item { onFoo: { let ", " = 1; const b } }"], "ok"),
+    (["Item { onFoo: for (var ", " = 1;;) a }"], "ok"),
 ];
 
 #[test]
 fn words_that_only_qml_has(rt: HostRuntime) -> Result<(), Fail> {
     for word in FOREIGN {
         word_answered(&rt, rt.alloc(), word, FOREIGN_ROWS)?;
+        word_answered(&rt, rt.alloc(), word, NAME_ROWS)?;
     }
     Ok(())
 }
@@ -594,17 +675,36 @@ const BEGINNING_ROWS: &[([&str; 2], &str)] = &[
     (["Item { x: 1 + ", " }"], "Syntax 1:15"),
     (["Item { x: f(", ") }"], "Syntax 1:13"),
     (["Item { x: a ", " b }"], "Syntax 1:13"),
+    (["Item { onFoo: a ", " b }"], "Syntax 1:17"),
     (["Item { onFoo: if (", ") a }"], "Syntax 1:19"),
     (["Item { onFoo: return ", " }"], "Syntax 1:22"),
-    (["Item { x: a.", " }"], "ok"),
-    (["Item { id: ", " }"], "ok"),
-    (["Item { onFoo: var ", " }"], "ok"),
+    (["", " { }"], "Syntax 1:1"),
 ];
 
 #[test]
 fn words_that_begin_a_statement(rt: HostRuntime) -> Result<(), Fail> {
     for word in BEGINNINGS {
         word_answered(&rt, rt.alloc(), word, BEGINNING_ROWS)?;
+        word_answered(&rt, rt.alloc(), word, NAME_ROWS)?;
+    }
+    Ok(())
+}
+
+const LITERAL_ROWS: &[([&str; 2], &str)] = &[
+    (["Item { x: ", " }"], "ok"),
+    (["Item { x: -f(", ") }"], "ok"),
+    (["Item { onFoo: ", ".a() }"], "ok"),
+    (["Item { x: a ", " b }"], "Syntax 1:13"),
+    (["Item { onFoo: for (", " = 1;;) a }"], "Syntax 1:20"),
+    (["Item { onFoo: for (;;", ".a++) b }"], "Syntax 1:22"),
+    (["", " { }"], "Syntax 1:1"),
+];
+
+#[test]
+fn words_that_are_literals(rt: HostRuntime) -> Result<(), Fail> {
+    for word in LITERALS {
+        word_answered(&rt, rt.alloc(), word, LITERAL_ROWS)?;
+        word_answered(&rt, rt.alloc(), word, NAME_ROWS)?;
     }
     Ok(())
 }
@@ -670,6 +770,12 @@ const LEVELS: &[([&str; 5], usize, &str)] = &[
         64,
         "TooDeep 1:463",
     ),
+    (["", "Item { ", "onFoo: while (a) b", "} ", ""], 63, "ok"),
+    (
+        ["", "Item { ", "onFoo: while (a) b", "} ", ""],
+        64,
+        "TooDeep 1:466",
+    ),
     (["", "Item { ", "onFoo: while (a) { }", "} ", ""], 62, "ok"),
     (
         ["", "Item { ", "onFoo: while (a) { }", "} ", ""],
@@ -702,6 +808,11 @@ const LEVELS: &[([&str; 5], usize, &str)] = &[
         ["", "Item { ", "x: a ? (b) : c", "} ", ""],
         63,
         "TooDeep 1:449",
+    ),
+    (
+        ["", "Item { ", "x: a ? b : (c)", "} ", ""],
+        63,
+        "TooDeep 1:453",
     ),
     (
         ["", "Item { ", "x: a ? b : c ? d : e", "} ", ""],
@@ -741,6 +852,8 @@ const LEVELS: &[([&str; 5], usize, &str)] = &[
     ),
     (["I{", "x:I{", "", "}", "}"], 63, "ok"),
     (["I{", "x:I{", "", "}", "}"], 64, "TooDeep 1:258"),
+    (["I{", "property A p:I{", "", "}", "}"], 63, "ok"),
+    (["I{", "property A p:I{", "", "}", "}"], 64, "TooDeep 1:962"),
     (["I{a{", "x:I{", "", "}", "}}"], 62, "ok"),
     (["I{a{", "x:I{", "", "}", "}}"], 63, "TooDeep 1:256"),
     (["I{onA:", "{", "", "}", "}"], 63, "ok"),
@@ -751,6 +864,8 @@ const LEVELS: &[([&str; 5], usize, &str)] = &[
     (["Item { x: ", "(", "1", ")", " }"], 64, "TooDeep 1:74"),
     (["I{x:", "- ", "1", "", "}"], 63, "ok"),
     (["I{x:", "- ", "1", "", "}"], 64, "TooDeep 1:131"),
+    (["I{x:", "+ ", "1", "", "}"], 63, "ok"),
+    (["I{x:", "+ ", "1", "", "}"], 64, "TooDeep 1:131"),
     (["I{x:", "!", "1", "", "}"], 63, "ok"),
     (["I{x:", "!", "1", "", "}"], 64, "TooDeep 1:68"),
     (["I{x:a", "?b:c", "", "", "}"], 63, "ok"),
@@ -769,6 +884,15 @@ const LEVELS: &[([&str; 5], usize, &str)] = &[
     (["I{onA:", "while(a)", "b", "", "}"], 64, "TooDeep 1:519"),
     (["I{onA:", "for(;;)", "b", "", "}"], 63, "ok"),
     (["I{onA:", "for(;;)", "b", "", "}"], 64, "TooDeep 1:455"),
+    // A block inside a statement is one level more than the statement.
+    (["I{onA:", "if(a){", "", "}", "}"], 31, "ok"),
+    (["I{onA:", "if(a){", "", "}", "}"], 32, "TooDeep 1:198"),
+    (["I{onA:", "if(a);else{", "", "}", "}"], 31, "ok"),
+    (["I{onA:", "if(a);else{", "", "}", "}"], 32, "TooDeep 1:358"),
+    (["I{onA:", "while(a){", "", "}", "}"], 31, "ok"),
+    (["I{onA:", "while(a){", "", "}", "}"], 32, "TooDeep 1:294"),
+    (["I{onA:", "for(;;){", "", "}", "}"], 31, "ok"),
+    (["I{onA:", "for(;;){", "", "}", "}"], 32, "TooDeep 1:262"),
 ];
 
 #[test]
@@ -804,7 +928,29 @@ const NODES: &[([&str; 5], usize, &str)] = &[
     (["I{x:a", "+a", "+1", "", "}"], 99, "TooDeep 1:205"),
     (["I{x:a", "+a", "+'a'", "", "}"], 99, "TooDeep 1:205"),
     (["I{x:a", "+a", "+null", "", "}"], 99, "TooDeep 1:205"),
+    (["I{x:a", "+a", "+true", "", "}"], 99, "TooDeep 1:205"),
+    (["I{x:a", "+a", "+false", "", "}"], 99, "TooDeep 1:205"),
+    (["I{x:a", "+a", "+undefined", "", "}"], 99, "TooDeep 1:205"),
+    (["I{x:a", "+a", "+!a", "", "}"], 99, "TooDeep 1:205"),
+    (["I{x:a", "+a", "+ +a", "", "}"], 99, "TooDeep 1:206"),
+    (["I{x:a", "+a", "+(a)", "", "}"], 99, "TooDeep 1:206"),
     (["I{x:a.b", "+a", "+a", "", "}"], 99, "TooDeep 1:206"),
+    (["I{x:a.b", "+a", "-a", "", "}"], 99, "TooDeep 1:206"),
+    (["I{x:a.b", "+a", "*a", "", "}"], 99, "TooDeep 1:206"),
+    (["I{x:a.b", "+a", "/a", "", "}"], 99, "TooDeep 1:206"),
+    (["I{x:a.b", "+a", "%a", "", "}"], 99, "TooDeep 1:206"),
+    (["I{x:a.b", "+a", "<a", "", "}"], 99, "TooDeep 1:206"),
+    (["I{x:a.b", "+a", "<=a", "", "}"], 99, "TooDeep 1:206"),
+    (["I{x:a.b", "+a", ">a", "", "}"], 99, "TooDeep 1:206"),
+    (["I{x:a.b", "+a", ">=a", "", "}"], 99, "TooDeep 1:206"),
+    (["I{x:a.b", "+a", "==a", "", "}"], 99, "TooDeep 1:206"),
+    (["I{x:a.b", "+a", "!=a", "", "}"], 99, "TooDeep 1:206"),
+    (["I{x:a.b", "+a", "===a", "", "}"], 99, "TooDeep 1:206"),
+    (["I{x:a.b", "+a", "!==a", "", "}"], 99, "TooDeep 1:206"),
+    (["I{x:a.b", "+a", "&&a", "", "}"], 99, "TooDeep 1:206"),
+    (["I{x:a.b", "+a", "||a", "", "}"], 99, "TooDeep 1:206"),
+    (["I{x:a.b", "+a", ".b", "", "}"], 99, "TooDeep 1:206"),
+    (["I{x:a.b", "+a", "()", "", "}"], 99, "TooDeep 1:206"),
     (["I{x:a.b", "+a", "?b:c", "", "}"], 99, "TooDeep 1:206"),
     (["I{x:a", "+a", "?b:c", "", "}"], 99, "TooDeep 1:205"),
     (["I{x:a", "+a", "?b:c", "", "}"], 98, "ok"),
@@ -819,6 +965,22 @@ const NODES: &[([&str; 5], usize, &str)] = &[
     (["I{onA:for(a", ".b", "=1;;)c", ".d", "}"], 199, "ok"),
     (["I{onA:for(;;a", ".b", "++)c", ".d", "}"], 199, "ok"),
     (["I{x:a", ".b", ";y:c", ".d", "}"], 199, "ok"),
+    (["I{onA:{let c=a", ".b", ";return a", ".b", "}}"], 199, "ok"),
+    (["I{onA:let c=a", ".b", "", "", "}"], 200, "TooDeep 1:412"),
+    (["I{onA:return a", ".b", "", "", "}"], 200, "TooDeep 1:413"),
+    (["I{onA:if(a", ".b", ")c", "", "}"], 200, "TooDeep 1:409"),
+    (["I{onA:while(a", ".b", ")c", "", "}"], 200, "TooDeep 1:412"),
+    (
+        ["I{onA:for(a", ".b", "=1;;)c", "", "}"],
+        200,
+        "TooDeep 1:410",
+    ),
+    (["I{onA:for(;a", ".b", ";)c", "", "}"], 200, "TooDeep 1:411"),
+    (
+        ["I{onA:for(;;a", ".b", "++)c", "", "}"],
+        200,
+        "TooDeep 1:412",
+    ),
     // A token that cannot stand there is no node.
     (["I{x:a", "+a", "+[", "", "}"], 99, "Unsupported 1:205"),
     (["I{x:a", "+a", "+{", "", "}"], 99, "Unsupported 1:205"),
@@ -855,6 +1017,8 @@ const SIZES: &[([&str; 5], usize, &str)] = &[
         32769,
         "BadToken 1:11",
     ),
+    (["Item { x: '", "é", "'", "", " }"], 32768, "ok"),
+    (["Item { x: '", "é", "'", "", " }"], 32769, "BadToken 1:11"),
 ];
 
 #[test]
