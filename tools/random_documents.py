@@ -12,7 +12,8 @@ PLAIN_NAMES = "a b c foo parent width anchors border x _ _a1 on onX component".s
 UPPER_NAMES = "A B Item Component Qt Math".split()
 WORDS = (
     "id property readonly signal function default enum required alias import as else if while for return var let"
-    " const true false null undefined switch do break new delete typeof instanceof in void with class this"
+    " const true false null undefined switch do break continue try throw new delete typeof instanceof in void"
+    " with class this"
 ).split()
 LITERALS = ["0", "1", "42", "2147483647", "0x0", "0x00fF", '"t"', "'t'", '""', '"\\n\\u00e9"', "'\"é'", '"//"']
 LITERALS += ["true", "false", "null", "undefined"]
