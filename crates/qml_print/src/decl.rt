@@ -73,7 +73,7 @@ fn write_method_names(params: &[MethodParam], out: &mut Sheet) -> Result<(), All
     Ok(())
 }
 
-/// Writes what a method takes, in parentheses.
+/// Writes what a method takes, in parentheses, and the space behind them.
 fn write_method_params(params: &[MethodParam], out: &mut Sheet) -> Result<(), AllocError>
     ensures { IfOk result (λ _. out.new ≡ out.old ++ method_params_text params.now) }
 {

@@ -79,7 +79,7 @@ fn write_part(text: &[u8], part: &Option<Boxed<Stmt>>, out: &mut Sheet) -> Resul
     }
 }
 
-/// Writes the head of a `for`.
+/// Writes the head of a `for` and the space behind it.
 fn write_for_head(
     first: &Option<Boxed<Stmt>>,
     condition: &Option<Expr>,
