@@ -94,7 +94,7 @@ fn property_of(name: &str) -> Option<Property>
 /// What the initialiser of a name by a literal gives.
 fn literal_setting(name: &str, value: &Value) -> Option<Setting>
     ensures setting { (at : Span) → result ≡ setting_by (initialised name.now (literal_value value.now) at) }
-    ensures small { IfSome result IsInRange }
+    ensures in_range { IfSome result IsInRange }
 {
     match value {
         Value::Int(n) => number_setting(name, *n),
@@ -113,7 +113,7 @@ fn literal_setting(name: &str, value: &Value) -> Option<Setting>
 /// What the initialiser of a name by a whole number gives.
 fn number_setting(name: &str, n: i32) -> Option<Setting>
     ensures setting { (at : Span) → result ≡ setting_by (initialised name.now (literal_value (Value.Int n)) at) }
-    ensures small { IfSome result IsInRange }
+    ensures in_range { IfSome result IsInRange }
 {
     if n < 0 {
         return None;
@@ -125,7 +125,7 @@ fn number_setting(name: &str, n: i32) -> Option<Setting>
 /// What the initialiser of a path gives.
 fn initialiser_setting(path: &Path, init: &Init) -> Option<Setting>
     ensures setting { (at : Span) → result ≡ setting_by (path_initialised path.now (literal_of init.now) at) }
-    ensures small { IfSome result IsInRange }
+    ensures in_range { IfSome result IsInRange }
 {
     if path.second.is_some() {
         return None;
@@ -139,7 +139,7 @@ fn initialiser_setting(path: &Path, init: &Init) -> Option<Setting>
 /// What a member gives its object, if it is an initialiser that is run.
 pub(crate) fn setting_of(member: &Member) -> Option<Setting>
     ensures setting { result ≡ setting_by (part_of member.now) }
-    ensures small { IfSome result IsInRange }
+    ensures in_range { IfSome result IsInRange }
 {
     match member {
         Member::Init { path, init, .. } => initialiser_setting(path, init),

@@ -13,7 +13,7 @@ pub mod status;
 pub mod words;
 
 pub use journal::{Journal, Move};
-pub use laws::{one_painting, one_script};
+pub use laws::{one_fault, one_painting, one_script};
 pub use stage::{Outcome, run};
 pub use status::{Status, exit_of, status_line};
 pub use words::Words;
