@@ -11,6 +11,7 @@ use Rattle.qml_expr.specs.declared.lexeme.Lexeme.TheVariants.{Plain, Word, Integ
 use Rattle.qml_expr.specs.declared.token.Token.{Token as HeldToken}
 use Rattle.qml_expr.specs.declared.cursor.Cursor.{Cursor}
 
+-- what a token says, as the grammar has it
 abbrev pub lexeme_of : HeldLexeme → Lexeme
 lexeme_of (Plain name) = plain name
 lexeme_of (Word w) = word w
@@ -19,9 +20,11 @@ lexeme_of (Decimal whole part) = decimal whole part
 lexeme_of (Text t) = text t
 lexeme_of (Mark m) = mark m
 
+-- a token, as the grammar has it
 abbrev pub token_of : HeldToken → Token
 token_of t = record { lexeme = lexeme_of t.lexeme; span = t.span }
 
+-- tokens, as the grammar has them
 abbrev pub tokens_of : List HeldToken → List Token
 tokens_of = map token_of
 

@@ -17,7 +17,7 @@ pub enum Lexeme {
     Word(Word),
     /// A whole number.
     Integer(Natural),
-    /// The values of the digits before and after the point.
+    /// The values of the digits before and after the dot, each 2147483647 where the digits' value is more.
     Decimal(u32, u32),
     /// A text's value.
     Text(Text),
@@ -123,14 +123,15 @@ impl Lexeme {
         }
     }
 
-    /// Whether it is a name behind a point.
+    /// Whether it is a name where neither an expression nor a statement begins, as behind a dot. A word is
+    /// one too.
     pub fn is_name(&self) -> bool
         ensures { result ≡ is_some (name_of_lexeme (lexeme_of self.now)) }
     {
         matches!(self, Lexeme::Plain(_) | Lexeme::Word(_))
     }
 
-    /// Whether it is a name where an expression begins.
+    /// Whether it is a name where an expression or a statement begins. A word with a meaning there is none.
     pub fn is_operand_name(&self) -> bool
         ensures { result ≡ is_some (operand_name_of_lexeme (lexeme_of self.now)) }
     {
@@ -152,7 +153,8 @@ impl Lexeme {
         }
     }
 
-    /// The name that it is behind a point.
+    /// The name that it is where neither an expression nor a statement begins, as behind a dot, if it is
+    /// one. The error is that memory ran out.
     pub fn name(&self, alloc: Global) -> Result<Option<Name>, AllocError>
         ensures { IfOk result (λ name. name ≡ name_of_lexeme (lexeme_of self.now)) }
     {
@@ -163,7 +165,8 @@ impl Lexeme {
         }
     }
 
-    /// The name that it is where an expression begins.
+    /// The name that it is where an expression or a statement begins, if it is one there. The error is that
+    /// memory ran out.
     pub fn operand_name(&self, alloc: Global) -> Result<Option<Name>, AllocError>
         ensures { IfOk result (λ name. name ≡ operand_name_of_lexeme (lexeme_of self.now)) }
     {
@@ -174,7 +177,7 @@ impl Lexeme {
         }
     }
 
-    /// The value of a literal.
+    /// The value of the literal that it is, if it is one. The error is that memory for a text ran out.
     pub fn value(&self, alloc: Global) -> Result<Option<Value>, AllocError>
         ensures { IfOk result (λ value. value ≡ value_of_lexeme (lexeme_of self.now)) }
     {
@@ -197,7 +200,7 @@ impl Lexeme {
         }
     }
 
-    /// Whether QML has it where an expression begins, and the engine has not.
+    /// Whether QML has it where an expression or a statement begins, and the engine has not.
     pub fn is_foreign_operand(&self) -> bool
         ensures { result ≡ is_foreign_operand_lexeme (lexeme_of self.now) }
     {

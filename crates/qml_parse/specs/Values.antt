@@ -6,6 +6,7 @@ use Rattle.qml_grammar.specs.Documents.{Valued}
 use Rattle.qml_grammar.specs.Inputs.{Input}
 use Rattle.qml_parse.specs.declared.value.Valued.{Valued as HeldValued}
 
+-- a value and its place, as the grammar has them
 abbrev pub valued_of : HeldValued → Valued
 valued_of x = record { init = x.init; span = x.span }
 

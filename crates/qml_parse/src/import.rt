@@ -28,7 +28,8 @@ fn module_part(alloc: Global, single: bool, cursor: &mut Cursor<'_>) -> Result<b
     Ok(false)
 }
 
-// The further names of a module; whether it is QtQuick, if it is so where it has none.
+// The further names of a module, each behind a dot; whether the module is QtQuick. `single` says whether it
+// is so if it has no further name.
 fn module_parts(alloc: Global, single: bool, cursor: &mut Cursor<'_>) -> Result<bool, DocFault>
     ensures { IsReading (while_next (is_mark Dot) spec.module_part single (input_of cursor.old)) result (input_of cursor.new) }
 {

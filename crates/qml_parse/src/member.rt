@@ -111,10 +111,13 @@ pub(crate) fn handled(
 /// What a property declares before its value.
 #[derive(Debug, Drop)]
 pub(crate) struct Declared {
+    /// Whether `readonly` stands before it.
     pub fixed: bool,
     pub kind: Name,
+    /// Where the kind stands.
     pub kind_span: Span,
     pub name: Name,
+    /// Where the name stands.
     pub span: Span,
 }
 

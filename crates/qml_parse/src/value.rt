@@ -13,6 +13,7 @@ use std::alloc::Global;
 #[derive(Debug, Drop)]
 pub(crate) struct Valued {
     pub init: Boxed<Init>,
+    /// The place of a literal, inside its parentheses, and else of the value's first token.
     pub span: Span,
 }
 
@@ -47,8 +48,8 @@ fn behind_parens(tokens: &[Token]) -> &[Token]
     rest
 }
 
-/// The place of an expression that the tokens begin with: of its literal, or else of its first token.
-pub(crate) fn value_place(value: &Expr, tokens: &[Token], end: Span) -> Span
+// The place of an expression that the tokens begin with: of its literal, or else of its first token.
+fn value_place(value: &Expr, tokens: &[Token], end: Span) -> Span
     ensures { result ≡ spec.value_place value.now (tokens_of tokens.now) end }
 {
     if is_literal(value) {

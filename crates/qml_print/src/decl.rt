@@ -2,7 +2,7 @@ ghost use Rattle.std.specs.Prelude.{◌≡◌, [], ◌++◌, codes, map, option_
 ghost use Rattle.qml_grammar.specs.Canonical.{braced, decl_text, init_text, maybe_text, member_text, method_params_text, path_text, signal_param_text, signal_params_text};
 ghost use Rattle.qml_grammar.specs.CanonicalExpressions.{join};
 
-use crate::expr::write_expr;
+use crate::expr::{LOOSEST, write_expr};
 use crate::sheet::Sheet;
 use crate::stmt::{write_block, write_stmt};
 use qml_ast::{Decl, Init, Member, MethodParam, Name, Path, SignalParam};
@@ -73,7 +73,7 @@ fn write_method_names(params: &[MethodParam], out: &mut Sheet) -> Result<(), All
     Ok(())
 }
 
-/// Writes what a method takes, in parentheses.
+/// Writes what a method takes, in parentheses, and the space behind them.
 fn write_method_params(params: &[MethodParam], out: &mut Sheet) -> Result<(), AllocError>
     ensures { IfOk result (λ _. out.new ≡ out.old ++ method_params_text params.now) }
 {
@@ -112,6 +112,7 @@ pub(crate) fn write_decl(decl: &Decl, levels: usize, out: &mut Sheet) -> Result<
 fn write_members(members: &[Member], levels: usize, out: &mut Sheet) -> Result<(), AllocError>
     ensures { IfOk result (λ _. out.new ≡ out.old ++ braced (map member_text members.now) levels) }
 {
+    // No memory holds a text that is indented by more levels than a usize counts.
     let inner = levels.checked_add(1).ok_or(AllocError)?;
     out.put(b"{\n")?;
     for member in members {
@@ -129,7 +130,7 @@ fn write_init(init: &Init, levels: usize, out: &mut Sheet) -> Result<(), AllocEr
     ensures { IfOk result (λ _. out.new ≡ out.old ++ init_text init.now levels) }
 {
     match init {
-        Init::Expr(expr) => write_expr(expr, 0, out),
+        Init::Expr(expr) => write_expr(expr, LOOSEST, out),
         Init::Object(object) => write_decl(object.get(), levels, out),
     }
 }

@@ -3,7 +3,7 @@ ghost use Rattle.qml_grammar.specs.Canonical.{document_text, import_text, stmt_t
 ghost use Rattle.qml_grammar.specs.CanonicalExpressions.{expr_text};
 
 use crate::decl::write_decl;
-use crate::expr::write_expr;
+use crate::expr::{LOOSEST, write_expr};
 use crate::sheet::Sheet;
 use crate::stmt::write_stmt;
 use qml_ast::{Document, Expr, Import, Stmt};
@@ -34,7 +34,7 @@ pub fn print_expr(alloc: Global, expr: &Expr) -> Result<Vec<u8>, AllocError>
     ensures { IfOk result (λ bytes. bytes.items ≡ expr_text expr.now) }
 {
     let mut out = Sheet::new(alloc);
-    write_expr(expr, 0, &mut out)?;
+    write_expr(expr, LOOSEST, &mut out)?;
     Ok(out.into_bytes())
 }
 

@@ -7,12 +7,39 @@ use crate::sheet::Sheet;
 use qml_ast::{BinOp, Expr, UnOp};
 use std::alloc::AllocError;
 
-/// How tightly a member or a call binds.
-const POSTFIX: u32 = 8;
+// How tightly each form binds. A number has no meaning but its order among the others.
 
-/// How tightly an operator before its operand binds.
+/// A conditional, than which nothing binds less tightly.
+pub(crate) const LOOSEST: u32 = 0;
+
+/// `||`
+const DISJUNCTION: u32 = 1;
+
+/// `&&`
+const CONJUNCTION: u32 = 2;
+
+/// `==`, `!=`, `===` and `!==`.
+const EQUALITY: u32 = 3;
+
+/// `<`, `<=`, `>` and `>=`.
+const ORDER: u32 = 4;
+
+/// `+` and `-`.
+const SUM: u32 = 5;
+
+/// `*`, `/` and `%`.
+const PRODUCT: u32 = 6;
+
+/// An operator before its operand.
 const UNARY: u32 = 7;
 
+/// A member or a call.
+const POSTFIX: u32 = 8;
+
+/// A literal or a name.
+const ATOM: u32 = 9;
+
+/// An operator before its operand, as it is written.
 fn unary_text(operator: UnOp) -> &'static [u8]
     ensures { result.now ≡ unary_text operator }
 {
@@ -23,6 +50,7 @@ fn unary_text(operator: UnOp) -> &'static [u8]
     }
 }
 
+/// An operator between two operands, as it is written, with the spaces round it.
 fn binary_text(operator: BinOp) -> &'static [u8]
     ensures { result.now ≡ binary_text operator }
 {
@@ -46,13 +74,13 @@ fn binary_text(operator: BinOp) -> &'static [u8]
 /// How tightly an operator between two operands binds.
 fn binary_strength(operator: BinOp) -> u32
     ensures strength { result ≡ binary_strength operator }
-    ensures within { result ≤ 6 }
+    ensures within { result ≤ PRODUCT }
 {
     match operator {
-        BinOp::Mul | BinOp::Div | BinOp::Rem => 6,
-        BinOp::Add | BinOp::Sub => 5,
-        BinOp::Lt | BinOp::Le | BinOp::Gt | BinOp::Ge => 4,
-        BinOp::Eq | BinOp::Ne | BinOp::Eq3 | BinOp::Ne3 => 3,
+        BinOp::Mul | BinOp::Div | BinOp::Rem => PRODUCT,
+        BinOp::Add | BinOp::Sub => SUM,
+        BinOp::Lt | BinOp::Le | BinOp::Gt | BinOp::Ge => ORDER,
+        BinOp::Eq | BinOp::Ne | BinOp::Eq3 | BinOp::Ne3 => EQUALITY,
     }
 }
 
@@ -61,13 +89,13 @@ fn strength(expr: &Expr) -> u32
     ensures { result ≡ (printed expr.now).strength }
 {
     match expr {
-        Expr::Lit(_) | Expr::Name(_) => 9,
+        Expr::Lit(_) | Expr::Name(_) => ATOM,
         Expr::Member(..) | Expr::Call(..) => POSTFIX,
         Expr::Unary(..) => UNARY,
         Expr::Binary(operator, ..) => binary_strength(*operator),
-        Expr::And(..) => 2,
-        Expr::Or(..) => 1,
-        Expr::Cond(..) => 0,
+        Expr::And(..) => CONJUNCTION,
+        Expr::Or(..) => DISJUNCTION,
+        Expr::Cond(..) => LOOSEST,
     }
 }
 
@@ -124,17 +152,17 @@ fn write_bare(expr: &Expr, out: &mut Sheet) -> Result<(), AllocError>
             write_behind(binary_text(*operator), right.get(), strength + 1, out)
         }
         Expr::And(left, right) => {
-            write_expr(left.get(), 2, out)?;
-            write_behind(b" && ", right.get(), 3, out)
+            write_expr(left.get(), CONJUNCTION, out)?;
+            write_behind(b" && ", right.get(), CONJUNCTION + 1, out)
         }
         Expr::Or(left, right) => {
-            write_expr(left.get(), 1, out)?;
-            write_behind(b" || ", right.get(), 2, out)
+            write_expr(left.get(), DISJUNCTION, out)?;
+            write_behind(b" || ", right.get(), DISJUNCTION + 1, out)
         }
         Expr::Cond(condition, then, otherwise) => {
-            write_expr(condition.get(), 1, out)?;
-            write_behind(b" ? ", then.get(), 0, out)?;
-            write_behind(b" : ", otherwise.get(), 0, out)
+            write_expr(condition.get(), DISJUNCTION, out)?;
+            write_behind(b" ? ", then.get(), LOOSEST, out)?;
+            write_behind(b" : ", otherwise.get(), LOOSEST, out)
         }
     }
 }
@@ -142,15 +170,15 @@ fn write_bare(expr: &Expr, out: &mut Sheet) -> Result<(), AllocError>
 // Writes an operator before its operand, with a space between equal signs.
 #[cycle(write_expr)]
 fn write_unary(operator: UnOp, operand: &Expr, out: &mut Sheet) -> Result<(), AllocError>
-    ensures { let text = bound 7 (printed operand.now) in
+    ensures { let text = bound UNARY (printed operand.now) in
         IfOk result (λ _. out.new ≡ out.old ++ (unary_text operator ++ (unary_space operator text ++ text))) }
 {
     out.put(unary_text(operator))?;
     let start = out.len();
     write_expr(operand, UNARY, out)?;
     match operator {
-        UnOp::Neg => out.part(start, b'-'),
-        UnOp::Plus => out.part(start, b'+'),
+        UnOp::Neg => out.space_before(start, b'-'),
+        UnOp::Plus => out.space_before(start, b'+'),
         UnOp::Not => Ok(()),
     }
 }
@@ -163,9 +191,9 @@ fn write_arguments(arguments: &[Expr], out: &mut Sheet) -> Result<(), AllocError
     let [first, others @ ..] = arguments else {
         return Ok(());
     };
-    write_expr(first, 0, out)?;
+    write_expr(first, LOOSEST, out)?;
     for argument in others {
-        write_behind(b", ", argument, 0, out)?;
+        write_behind(b", ", argument, LOOSEST, out)?;
     }
     Ok(())
 }
@@ -179,7 +207,7 @@ pub(crate) fn write_maybe(
     ensures { IfOk result (λ _. out.new ≡ out.old ++ maybe_text text.now expr_text expr.now) }
 {
     match expr {
-        Some(expr) => write_behind(text, expr, 0, out),
+        Some(expr) => write_behind(text, expr, LOOSEST, out),
         None => Ok(()),
     }
 }

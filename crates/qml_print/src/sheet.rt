@@ -82,7 +82,7 @@ impl Sheet {
     }
 
     /// Puts a space before what stands from `start` on, where that begins with `sign`.
-    pub fn part(&mut self, start: usize, sign: u8) -> Result<(), AllocError>
+    pub fn space_before(&mut self, start: usize, sign: u8) -> Result<(), AllocError>
         ensures { (before behind : List ℕ) → self.old ≡ before ++ behind → start ≡ length before →
             IfOk result (λ _. self.new ≡ before ++ ((if begins_with sign behind then codes " " else []) ++ behind)) }
     {

@@ -1,12 +1,13 @@
 ghost use Rattle.std.specs.Prelude.{◌≡◌, ◌++◌, codes, map, option_map, IfOk, if◌then◌else◌};
 ghost use Rattle.qml_grammar.specs.Canonical.{assign_text, braced, for_head, local_word_text, maybe_text, stmt_lined, stmt_text};
 
-use crate::expr::{write_behind, write_expr, write_maybe};
+use crate::expr::{LOOSEST, write_behind, write_expr, write_maybe};
 use crate::sheet::Sheet;
 use qml_ast::{AssignOp, Expr, LocalWord, Stmt};
 use sqlite_items::Boxed;
 use std::alloc::AllocError;
 
+/// The word that declares a local, as it is written, with the space behind it.
 fn local_word_text(word: LocalWord) -> &'static [u8]
     ensures { result.now ≡ local_word_text word }
 {
@@ -17,6 +18,7 @@ fn local_word_text(word: LocalWord) -> &'static [u8]
     }
 }
 
+/// The mark of an assignment, as it is written, with the spaces round it.
 fn assign_text(operator: AssignOp) -> &'static [u8]
     ensures { result.now ≡ assign_text operator }
 {
@@ -29,6 +31,7 @@ fn assign_text(operator: AssignOp) -> &'static [u8]
     }
 }
 
+/// `++` or `--`, as it is written.
 fn step_text(up: bool) -> &'static [u8]
     ensures { result.now ≡ (if up then codes "++" else codes "--") }
 {
@@ -47,14 +50,14 @@ fn write_simple(stmt: &Stmt, out: &mut Sheet) -> Result<(), AllocError>
             write_maybe(b" = ", value, out)
         }
         Stmt::Assign(target, operator, value) => {
-            write_expr(target, 0, out)?;
-            write_behind(assign_text(*operator), value, 0, out)
+            write_expr(target, LOOSEST, out)?;
+            write_behind(assign_text(*operator), value, LOOSEST, out)
         }
         Stmt::Step(target, up) => {
-            write_expr(target, 0, out)?;
+            write_expr(target, LOOSEST, out)?;
             out.put(step_text(*up))
         }
-        Stmt::Do(expr) => write_expr(expr, 0, out),
+        Stmt::Do(expr) => write_expr(expr, LOOSEST, out),
         Stmt::Return(value) => {
             out.put(b"return")?;
             write_maybe(b" ", value, out)
@@ -76,7 +79,7 @@ fn write_part(text: &[u8], part: &Option<Boxed<Stmt>>, out: &mut Sheet) -> Resul
     }
 }
 
-/// Writes the head of a `for`.
+/// Writes the head of a `for` and the space behind it.
 fn write_for_head(
     first: &Option<Boxed<Stmt>>,
     condition: &Option<Expr>,
@@ -103,14 +106,14 @@ pub(crate) fn write_stmt(stmt: &Stmt, levels: usize, out: &mut Sheet) -> Result<
         Stmt::Block(stmts) => write_block(stmts.as_slice(), levels, out),
         Stmt::If(condition, then, otherwise) => {
             out.put(b"if (")?;
-            write_expr(condition, 0, out)?;
+            write_expr(condition, LOOSEST, out)?;
             out.put(b") ")?;
             write_stmt(then.get(), levels, out)?;
             write_otherwise(otherwise, levels, out)
         }
         Stmt::While(condition, body) => {
             out.put(b"while (")?;
-            write_expr(condition, 0, out)?;
+            write_expr(condition, LOOSEST, out)?;
             out.put(b") ")?;
             write_stmt(body.get(), levels, out)
         }
@@ -153,6 +156,7 @@ fn write_otherwise(
 pub(crate) fn write_block(stmts: &[Stmt], levels: usize, out: &mut Sheet) -> Result<(), AllocError>
     ensures { IfOk result (λ _. out.new ≡ out.old ++ braced (map stmt_text stmts.now) levels) }
 {
+    // No memory holds a text that is indented by more levels than a usize counts.
     let inner = levels.checked_add(1).ok_or(AllocError)?;
     out.put(b"{\n")?;
     for stmt in stmts {

@@ -13,7 +13,7 @@ use qml_grammar::Word;
 use qml_lex::{TokenKind, decimal_value, integer_value, name_text, text_value};
 use std::alloc::{AllocError, Global};
 
-/// What the text of a token of this kind says.
+/// What the text of a token of this kind says. The error is that memory for a name or a text ran out.
 pub fn lexeme(alloc: Global, kind: TokenKind, text: &[u8]) -> Result<Lexeme, AllocError>
     requires { IsSpelled kind text.now }
     ensures { IfOk result (λ lexeme. Says kind text.now (lexeme_of lexeme)) }
@@ -30,7 +30,7 @@ pub fn lexeme(alloc: Global, kind: TokenKind, text: &[u8]) -> Result<Lexeme, All
     }
 }
 
-// What a name says: a word, or the name itself.
+// What a name says: a word, or the name itself. The error is that memory for the name ran out.
 #[tactic(auto, unfolding(qml_grammar::specs::Lexemes::lexeme_of_name))]
 fn name_lexeme(alloc: Global, text: &[u8]) -> Result<Lexeme, AllocError>
     requires { IsSpelled kinds.Name text.now }

@@ -24,13 +24,13 @@ pub fn tokens_of_text(alloc: Global, bytes: &[u8]) -> Result<Vec<Token>, DocFaul
     let mut scanner = Scanner::new(bytes)?;
     let mut tokens = Vec::new(alloc);
     while let Some(token) = scanner.next_token()? {
-        tokens.push(told(alloc, bytes, token)?)?;
+        tokens.push(grammar_token(alloc, bytes, token)?)?;
     }
     Ok(tokens)
 }
 
-// What a token of a text says, with its place.
-fn told(alloc: Global, bytes: &[u8], token: LexedToken) -> Result<Token, AllocError>
+// A token of a text as the grammar has it: what it says, and its place. The error is that memory ran out.
+fn grammar_token(alloc: Global, bytes: &[u8], token: LexedToken) -> Result<Token, AllocError>
     requires { IsWithin bytes.now token }
     ensures { IfOk result (λ told. IsTokenOf bytes.now token (token_of told)) }
 {

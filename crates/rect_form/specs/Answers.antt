@@ -4,8 +4,8 @@ use Rattle.qml_ast.specs.declared.fault.DocFault.{DocFault}
 use Rattle.qml_ast.specs.declared.fault.DocFault.TheVariants.{Unsupported, NoMemory}
 use Rattle.qml_ast.specs.declared.span.Span.{Span}
 
--- the document's flaw, or want of memory where it has none
-abbrev pub IsJust : Option Span → DocFault → Type 0
-IsJust flaw (Unsupported at) = flaw ≡ Some at
-IsJust flaw NoMemory = flaw ≡ None
-IsJust flaw _ = ⊥
+-- the fault of a document with this first flaw, or want of memory where it has none
+abbrev pub IsFaultFor : Option Span → DocFault → Type 0
+IsFaultFor flaw (Unsupported at) = flaw ≡ Some at
+IsFaultFor flaw NoMemory = flaw ≡ None
+IsFaultFor flaw _ = ⊥

@@ -24,6 +24,7 @@ place_of (tint argb at) = Some at
 place_of (object flaw its) = None
 place_of (unknown at) = Some at
 
+-- what a member gives is in range: a number of 31 bits, or an opaque colour
 abbrev pub IsInRange : Setting → Type 0
 IsInRange (Number property n) = n < 2 ^ 31
 IsInRange (Color argb) = 255 * 2 ^ 24 ≤ argb
@@ -39,6 +40,7 @@ number_in Y draft = draft.y
 number_in Width draft = draft.width
 number_in Height draft = draft.height
 
+-- the object with this number for a property
 abbrev pub put : Property → ℕ → Draft → Draft
 put X n draft = record draft { x = Some n }
 put Y n draft = record draft { y = Some n }
@@ -50,6 +52,7 @@ abbrev pub has : Setting → Draft → Bool
 has (Number property n) draft = is_some (number_in property draft)
 has (Color argb) draft = is_some draft.color
 
+-- the object with this, which it has not given before
 abbrev pub with_new : Setting → Draft → Draft
 with_new (Number property n) draft = put property n draft
 with_new (Color argb) draft = record draft { color = Some argb }
@@ -78,7 +81,7 @@ pub record IsDraftOf (draft : Draft) (members : Members) : Type 0 where
   pub color : draft.color ≡ color_of members
 
 -- what the object has given is in range
-pub record IsSmall (draft : Draft) : Type 0 where
+pub record AreInRange (draft : Draft) : Type 0 where
   pub x : IfSome draft.x (λ n. n < 2 ^ 31)
   pub y : IfSome draft.y (λ n. n < 2 ^ 31)
   pub width : IfSome draft.width (λ n. n < 2 ^ 31)

@@ -54,11 +54,13 @@ abbrev pub painted : Option ℕ → Literal
 painted None = other
 painted (Some argb) = paint argb
 
+-- what an initialiser by a literal of this value gives
 abbrev pub literal_value : Value → Literal
 literal_value (Int (pos n)) = whole n
 literal_value (Str text) = painted (named_color text)
 literal_value _ = other
 
+-- one level of an expression
 abbrev pub literal_step : Expr-F Expr → Literal
 literal_step (Expr-F.Lit value) = literal_value value
 literal_step _ = other
@@ -82,6 +84,7 @@ property_of name =
     if bytes_eq name (codes "width") then Some Width else
     if bytes_eq name (codes "height") then Some Height else None
 
+-- a number for the property of a name, if that is one
 abbrev pub sized : Option Property → ℕ → Span → Part
 sized None n at = unknown at
 sized (Some property) n at = size property n at
@@ -92,6 +95,7 @@ initialised name (whole n) at = sized (property_of name) n at
 initialised name (paint argb) at = if bytes_eq name (codes "color") then tint argb at else unknown at
 initialised name other at = unknown at
 
+-- the initialiser of a path by a literal; a path of two names is none that runs
 abbrev pub path_initialised : Path → Literal → Span → Part
 path_initialised path literal at = if is_some path.second then unknown at else initialised path.first literal at
 
@@ -154,6 +158,7 @@ literal_of = fold-Init Literal Part Reading init_step member_step decl_step
 abbrev pub part_of : Member → Part
 part_of = fold-Member Literal Part Reading init_step member_step decl_step
 
+-- what an object is
 abbrev pub reading_of : Decl → Reading
 reading_of = fold-Decl Literal Part Reading init_step member_step decl_step
 

@@ -11,6 +11,7 @@ pub record IsLawfulAt (index : ℕ) (object : RectDecl) : Type 0 where
   pub height : object.height < 2 ^ 31
   pub opaque : 255 * 2 ^ 24 ≤ object.color
 
+-- at most 2^31 objects, each lawful at its index
 pub record AreLawful (objects : List RectDecl) : Type 0 where
   pub few : length objects ≤ 2 ^ 31
   pub each : (i : ℕ) (object : RectDecl) → slice_get objects i ≡ Some object → IsLawfulAt i object

@@ -3,6 +3,7 @@ use Rattle.std.specs.Prelude.{ℕ, ◌+◌, Bool, true, false, List, [], ◌∷�
 use Rattle.rect_form.specs.declared.rect.RectDecl.{RectDecl}
 use Rattle.rect_form.specs.Tree.{Property, X, Y, Width, Height, Members, none, number, color, child}
 
+-- both are the same property
 abbrev pub is_same : Property → Property → Bool
 is_same X X = true
 is_same Y Y = true

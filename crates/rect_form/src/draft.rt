@@ -1,5 +1,5 @@
 ghost use Rattle.std.specs.Prelude.{◌≡◌, ℕ, ◌<◌, not, IfSome};
-ghost use Rattle.rect_form.specs.Drafts.{begun, finished, has, with_setting, number_in, put, IsInRange, IsSmall};
+ghost use Rattle.rect_form.specs.Drafts.{begun, finished, has, with_setting, number_in, put, IsInRange, AreInRange};
 ghost use Rattle.rect_form.specs.Lawful.{IsLawfulAt};
 ghost use Rattle.rect_form.specs.Tree.{none};
 
@@ -23,7 +23,7 @@ impl Draft {
     /// An object that has given nothing yet.
     pub fn new() -> Draft
         ensures draft { result ≡ begun }
-        ensures small { IsSmall result }
+        ensures in_range { AreInRange result }
     {
         Draft {
             x: None,
@@ -62,7 +62,7 @@ impl Draft {
     pub fn add(&mut self, setting: Setting) -> bool
         ensures fresh { result ≡ not (has setting self.old) }
         ensures added { self.new ≡ with_setting setting self.old }
-        ensures small { IsInRange setting → IsSmall self.old → IsSmall self.new }
+        ensures in_range { IsInRange setting → AreInRange self.old → AreInRange self.new }
     {
         match setting {
             Setting::Number(property, number) => {
@@ -84,7 +84,7 @@ impl Draft {
     /// The object, if it gives nothing more.
     pub fn object(&self, owner: Option<usize>) -> RectDecl
         ensures object { result ≡ finished owner self.now none }
-        ensures lawful { (index : ℕ) → IsSmall self.now → IfSome owner (λ k. k < index) → IsLawfulAt index result }
+        ensures lawful { (index : ℕ) → AreInRange self.now → IfSome owner (λ k. k < index) → IsLawfulAt index result }
     {
         RectDecl {
             owner,

@@ -4,7 +4,7 @@ ghost use Rattle.rect_form.specs.Form.{flaw_among, flaw_at, flaw_of, part_of, wi
 ghost use Rattle.rect_form.specs.Tree.{Members, none};
 
 use crate::draft::Draft;
-use crate::setting::{place, setting_of};
+use crate::setting::{place_of, setting_of};
 use qml_ast::{Decl, Member, Span};
 
 /// The first place in an object that is not run.
@@ -53,6 +53,6 @@ fn own_flaw(member: &Member, draft: &mut Draft) -> Option<Span>
 {
     match setting_of(member) {
         Some(setting) if draft.add(setting) => None,
-        _ => place(member),
+        _ => place_of(member),
     }
 }

@@ -1,5 +1,5 @@
 ghost use Rattle.std.specs.Prelude.{◌≡◌, None, IfOk, IfErr};
-ghost use Rattle.rect_form.specs.Answers.{IsJust};
+ghost use Rattle.rect_form.specs.Answers.{IsFaultFor};
 ghost use Rattle.rect_form.specs.Form.{flaw_of, tree_of};
 ghost use Rattle.rect_form.specs.Meaning.{flattened};
 
@@ -19,7 +19,7 @@ use std::alloc::Global;
 /// runs out, or there are more than 2^31 objects.
 pub fn rects(alloc: Global, document: &Document) -> Result<Rects, DocFault>
     ensures drawn { IfOk result (λ objects. (flaw_of document.now.root ≡ None) × (objects ≡ flattened None 0 (tree_of document.now.root))) }
-    ensures refused { IfErr result (IsJust (flaw_of document.now.root)) }
+    ensures refused { IfErr result (IsFaultFor (flaw_of document.now.root)) }
 {
     if let Some(at) = flaw(&document.root) {
         return Err(DocFault::Unsupported { at });

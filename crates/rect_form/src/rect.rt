@@ -63,7 +63,7 @@ impl Rects {
         self.objects.len()
     }
 
-    /// Puts a rectangle behind the others.
+    /// Puts a rectangle behind the others. The error is `NoMemory`: memory ran out, or there are 2^31.
     pub(crate) fn push(&mut self, object: RectDecl) -> Result<(), DocFault>
         requires { IsLawfulAt (length self.old) object }
         ensures pushed { IfOk result (λ _. self.new ≡ self.old ++ object ∷ []) }

@@ -26,6 +26,7 @@ pub(crate) enum Setting {
     Color(u32),
 }
 
+/// The value of a hexadecimal digit, in either case.
 fn hex_digit(byte: u8) -> Option<u8>
     ensures { result ≡ hex_digit byte }
 {
@@ -37,6 +38,7 @@ fn hex_digit(byte: u8) -> Option<u8>
     }
 }
 
+/// The value of two hexadecimal digits, the higher one first.
 fn hex_byte(first: u8, second: u8) -> Option<u8>
     ensures { result ≡ hex_byte first second }
 {
@@ -77,32 +79,28 @@ fn named_color(text: &[u8]) -> Option<u32>
 }
 
 /// The property of this name.
-fn property_of(name: &[u8]) -> Option<Property>
+fn property_of(name: &str) -> Option<Property>
     ensures { result ≡ property_of name.now }
 {
-    if name == b"x".as_slice() {
-        Some(Property::X)
-    } else if name == b"y".as_slice() {
-        Some(Property::Y)
-    } else if name == b"width".as_slice() {
-        Some(Property::Width)
-    } else if name == b"height".as_slice() {
-        Some(Property::Height)
-    } else {
-        None
+    match name {
+        "x" => Some(Property::X),
+        "y" => Some(Property::Y),
+        "width" => Some(Property::Width),
+        "height" => Some(Property::Height),
+        _ => None,
     }
 }
 
 /// What the initialiser of a name by a literal gives.
-fn literal_setting(name: &[u8], value: &Value) -> Option<Setting>
+fn literal_setting(name: &str, value: &Value) -> Option<Setting>
     ensures setting { (at : Span) → result ≡ setting_by (initialised name.now (literal_value value.now) at) }
-    ensures small { IfSome result IsInRange }
+    ensures in_range { IfSome result IsInRange }
 {
     match value {
         Value::Int(n) => number_setting(name, *n),
         Value::Str(text) => {
             let argb = named_color(text.as_bytes())?;
-            if name == b"color".as_slice() {
+            if name == "color" {
                 Some(Setting::Color(argb))
             } else {
                 None
@@ -113,9 +111,9 @@ fn literal_setting(name: &[u8], value: &Value) -> Option<Setting>
 }
 
 /// What the initialiser of a name by a whole number gives.
-fn number_setting(name: &[u8], n: i32) -> Option<Setting>
+fn number_setting(name: &str, n: i32) -> Option<Setting>
     ensures setting { (at : Span) → result ≡ setting_by (initialised name.now (literal_value (Value.Int n)) at) }
-    ensures small { IfSome result IsInRange }
+    ensures in_range { IfSome result IsInRange }
 {
     if n < 0 {
         return None;
@@ -127,13 +125,13 @@ fn number_setting(name: &[u8], n: i32) -> Option<Setting>
 /// What the initialiser of a path gives.
 fn initialiser_setting(path: &Path, init: &Init) -> Option<Setting>
     ensures setting { (at : Span) → result ≡ setting_by (path_initialised path.now (literal_of init.now) at) }
-    ensures small { IfSome result IsInRange }
+    ensures in_range { IfSome result IsInRange }
 {
     if path.second.is_some() {
         return None;
     }
     match init {
-        Init::Expr(Expr::Lit(value)) => literal_setting(path.first.as_bytes(), value),
+        Init::Expr(Expr::Lit(value)) => literal_setting(path.first.as_str(), value),
         _ => None,
     }
 }
@@ -141,7 +139,7 @@ fn initialiser_setting(path: &Path, init: &Init) -> Option<Setting>
 /// What a member gives its object, if it is an initialiser that is run.
 pub(crate) fn setting_of(member: &Member) -> Option<Setting>
     ensures setting { result ≡ setting_by (part_of member.now) }
-    ensures small { IfSome result IsInRange }
+    ensures in_range { IfSome result IsInRange }
 {
     match member {
         Member::Init { path, init, .. } => initialiser_setting(path, init),
@@ -150,7 +148,7 @@ pub(crate) fn setting_of(member: &Member) -> Option<Setting>
 }
 
 /// Where a member stands that is no child.
-pub(crate) fn place(member: &Member) -> Option<Span>
+pub(crate) fn place_of(member: &Member) -> Option<Span>
     ensures { result ≡ place_of (part_of member.now) }
 {
     match member {

@@ -9,7 +9,7 @@ use Rattle.qml_ast.specs.declared.fault.DocFault.TheVariants as doc
 use Rattle.qml_ast.specs.declared.fault.LoadFault.{LoadFault}
 use Rattle.qml_ast.specs.declared.fault.LoadFault.TheVariants as load
 use Rattle.qml_tokens.specs.Spelled.{Spells}
-use Rattle.rect_form.specs.Answers.{IsJust}
+use Rattle.rect_form.specs.Answers.{IsFaultFor}
 use Rattle.rect_form.specs.declared.rect.RectDecl.{RectDecl}
 use Rattle.rect_form.specs.Form.{flaw_of, tree_of}
 use Rattle.rect_form.specs.Meaning.{flattened}
@@ -21,12 +21,12 @@ use Rattle.stage_run.specs.Causes.{document_limit, HasFaultyText, HasFault, IsFa
 use Rattle.stage_run.specs.Flaws.{IsFlawOf, IsRefusalFor, RefusesBytes}
 
 -- what is not run of a document is a fault of its text
-not_run : (bytes : List ℕ) (document : Document) (fault : DocFault) → Spells bytes document → IsJust (flaw_of document.root) fault → IsFaulty bytes fault
+not_run : (bytes : List ℕ) (document : Document) (fault : DocFault) → Spells bytes document → IsFaultFor (flaw_of document.root) fault → IsFaulty bytes fault
 not_run bytes document (doc.Unsupported at) spelled flawed = inr (at, refl, record { document = document; spelled = spelled; flaw = flawed })
 not_run bytes document doc.NoMemory spelled flawed = inl tt
 not_run bytes document _ spelled flawed = absurd flawed
 
-pub is_refused : {A : Type 0} (bytes : List ℕ) (document : Document) (r : Result A DocFault) → Spells bytes document → IfErr r (IsJust (flaw_of document.root)) → IfErr r (IsFaulty bytes)
+pub is_refused : {A : Type 0} (bytes : List ℕ) (document : Document) (r : Result A DocFault) → Spells bytes document → IfErr r (IsFaultFor (flaw_of document.root)) → IfErr r (IsFaulty bytes)
 is_refused bytes document (Ok rects) spelled flawed = tt
 is_refused bytes document (Err fault) spelled flawed = not_run bytes document fault spelled flawed
 

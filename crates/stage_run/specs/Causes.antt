@@ -22,10 +22,11 @@ use Rattle.stage_run.specs.Script.{IsScript, IsFirstBadLine}
 use Rattle.stage_run.specs.Words.{main_of, script_of, AreLawful}
 use Rattle.stage_run.specs.Written.{written}
 
--- bytes of a script, at most 4 MiB; bytes of a document, at most 1 MiB
+-- the most bytes of a script, 4 MiB
 abbrev pub script_limit : ℕ
 script_limit = 4194304
 
+-- the most bytes of a document, 1 MiB
 abbrev pub document_limit : ℕ
 document_limit = 1048576
 
@@ -67,6 +68,7 @@ abbrev pub HasFaultyText : Option (List ℕ) → DocFault → Type 0
 HasFaultyText None fault = ⊥
 HasFaultyText (Some bytes) fault = (length bytes ≤ document_limit) × IsFaulty bytes fault
 
+-- the file has more bytes than a document may have
 abbrev pub IsTooLong : Option (List ℕ) → Type 0
 IsTooLong None = ⊥
 IsTooLong (Some bytes) = document_limit < length bytes
@@ -181,6 +183,7 @@ HasCause r status.ReadFault = AreLawful r.words × Ends r status.ReadFault
 HasCause r status.WriteFault = AreLawful r.words × Ends r status.WriteFault
 HasCause r status.NoMemory = AreLawful r.words × Ends r status.NoMemory
 
+-- the run was done, or memory ran out
 abbrev pub IsDoneOrNoMemory : Status → Type 0
 IsDoneOrNoMemory status.Done = Unit {0}
 IsDoneOrNoMemory status.Usage = ⊥

@@ -4,6 +4,7 @@ use Rattle.rect_form.specs.declared.rect.RectDecl.{RectDecl}
 use Rattle.rect_raster.specs.declared.clip_rect.ClipRect.{ClipRect}
 use Rattle.stage_run.specs.declared.painter.Corner.{Corner}
 
+-- the window's upper left corner
 abbrev pub origin : Corner
 origin = record { left = 0; top = 0 }
 
@@ -17,6 +18,7 @@ abbrev pub place_of : List Corner → RectDecl → Corner
 place_of corners object =
     record { left = (base_of corners object.owner).left + object.x; top = (base_of corners object.owner).top + object.y }
 
+-- an object's rectangle in the window, by its corner
 abbrev pub area_of : Corner → RectDecl → ClipRect
 area_of corner object =
     record { left = pos corner.left; top = pos corner.top; right = pos (corner.left + object.width); bottom = pos (corner.top + object.height) }

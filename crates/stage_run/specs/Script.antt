@@ -15,6 +15,7 @@ abbrev pub lines_of : List ℕ → List (List ℕ)
 lines_of [] = []
 lines_of (byte ∷ bytes) = if is_line_end byte then [] ∷ lines_of bytes else onto_first byte (lines_of bytes)
 
+-- the one command
 abbrev pub frame_word : List ℕ
 frame_word = codes "frame"
 

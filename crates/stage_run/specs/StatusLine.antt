@@ -28,6 +28,7 @@ doc_fault_text (doc.WrongLiteral at) = at_place at (codes "wrong literal")
 doc_fault_text (doc.ReadOnly at) = at_place at (codes "read only")
 doc_fault_text doc.NoMemory = codes ": no memory\n"
 
+-- what stands behind `qmlstage: ` where the document is refused
 abbrev pub load_fault_text : LoadFault → List ℕ
 load_fault_text (load.Missing name) = name ++ codes ": missing\n"
 load_fault_text (load.TooLong name) = name ++ codes ": too long\n"

@@ -22,6 +22,7 @@ pub record IsMainName (name : List ℕ) : Type 0 where
   pub ending : IsTrue (ends_with nat_eq name (codes ".qml"))
   pub plain : IsPlainName name
 
+-- a script's file
 pub record IsScriptName (name : List ℕ) : Type 0 where
   pub some : 0 < length name
   pub short : length name ≤ 255

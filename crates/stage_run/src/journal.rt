@@ -26,6 +26,7 @@ impl Model for Journal {
 }
 
 impl Journal {
+    /// No moves.
     pub(crate) fn new(alloc: Global) -> Journal
         ensures { result ≡ [] }
     {
@@ -34,6 +35,7 @@ impl Journal {
         }
     }
 
+    /// Adds a move at the end. After an error, which is that memory ran out, the journal is as before.
     pub(crate) fn push(&mut self, step: Move) -> Result<(), AllocError>
         ensures ok { OnOk result (self.new ≡ self.old ++ step ∷ []) }
         ensures err { OnErr result (self.new ≡ self.old) }

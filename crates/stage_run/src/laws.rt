@@ -1,3 +1,6 @@
+//! What holds of every text and every script, whoever reads them. The functions do nothing; each one's
+//! contract is a law.
+
 ghost use Rattle.std.specs.Prelude.{◌≡◌, ◌≢◌, ℕ, List};
 ghost use Rattle.qml_ast.specs.declared.fault.DocFault.{DocFault};
 ghost use Rattle.qml_ast.specs.declared.fault.DocFault.TheVariants.{NoMemory};

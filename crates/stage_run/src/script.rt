@@ -21,6 +21,7 @@ pub fn read_script(bytes: &[u8]) -> Result<u32, u32>
     Ok(count)
 }
 
+/// Whether a line says `frame`.
 fn is_frame(line: &[u8]) -> bool
     ensures { IsTrue result ↔ (line.now ≡ frame_word) }
 {

@@ -39,6 +39,7 @@ pub fn fetch_script<F: Files>(alloc: Global, files: &mut F, name: &str) -> Resul
     }
 }
 
+/// The number of commands of a script's text, or its first bad line.
 fn commands_of(bytes: &[u8]) -> Result<u32, Status>
     ensures read { IfOk result (IsScript bytes.now) }
     ensures refused { IfErr result (IsBadScriptAt bytes.now) }
@@ -69,6 +70,7 @@ pub fn fetch_document<F: Files>(alloc: Global, files: &mut F, name: &str) -> Res
     }
 }
 
+/// The rectangles of the text of the document of this name, or why there are none.
 fn document_of(alloc: Global, name: &str, bytes: &[u8]) -> Result<Rects, Status>
     requires name { length name.now ≤ 65536 }
     requires few { length bytes.now ≤ DOCUMENT_LIMIT }
@@ -111,6 +113,7 @@ enum Flaw {
     Doc(DocFault),
 }
 
+/// That the document of this name has the flaw, or that there is no memory to say so.
 fn bad_document(alloc: Global, name: &str, flaw: Flaw) -> Status
     requires { length name.now ≤ 65536 }
     ensures { IsFlawOf name.now flaw result }

@@ -52,12 +52,14 @@ pub fn status_line(alloc: Global, status: &Status) -> Result<Vec<u8>, AllocError
     }
 }
 
+/// A text as bytes.
 fn bytes_of(alloc: Global, text: &str) -> Result<Vec<u8>, AllocError>
     ensures { IfOk result (λ bytes. bytes.items ≡ text.now) }
 {
     Vec::from_slice(alloc, text.as_bytes())
 }
 
+/// The line for a document that is refused.
 fn load_fault_line(alloc: Global, fault: &LoadFault) -> Result<Vec<u8>, AllocError>
     ensures { IfOk result (λ line. line.items ≡ codes "qmlstage: " ++ load_fault_text fault.now) }
 {
@@ -105,6 +107,7 @@ fn doc_fault_line(alloc: Global, fault: DocFault) -> Result<String, AllocError>
     }
 }
 
+/// What is wrong at a place.
 fn at_place(alloc: Global, at: Span, what: &str) -> Result<String, AllocError>
     ensures { IfOk result (λ text. string_bytes text ≡ at_place at what.now) }
 {

@@ -70,18 +70,21 @@ impl Words {
     }
 }
 
+/// Whether it names a file of the folder itself.
 fn is_plain_name(name: &[u8]) -> bool
     ensures { IsTrue result ↔ IsPlainName name.now }
 {
     name.first() != Some(&b'-') && name.iter().all(|byte| *byte != b'/' && *byte != 0)
 }
 
+/// Whether it names a document's file.
 fn is_main_name(name: &[u8]) -> bool
     ensures { IsTrue result ↔ IsMainName name.now }
 {
     name.len() <= 255 && 4 < name.len() && name.ends_with(b".qml") && is_plain_name(name)
 }
 
+/// Whether it names a script's file.
 fn is_script_name(name: &[u8]) -> bool
     ensures { IsTrue result ↔ IsScriptName name.now }
 {

@@ -5,7 +5,7 @@ pub loop-tokens-preserved : goal.loop-tokens-preserved
 loop-tokens-preserved c = record {
   text = rw c.loop-tokens.invariant.text at c.in_ok-token.ensures.text;
   stands = c.in_ok-token.ensures.stands;
-  told = rw c.in_ok-push.ensures.items (told_more c.args.bytes.now _ _ _ c.loop-tokens.tokens.items c.in_ok-token.field-0 c.in-Some.token c.in_ok-told.field-0 c.loop-tokens.invariant.text c.in_ok-token.ensures.next c.in-Some.is c.in_ok-told.ensures c.loop-tokens.invariant.told);
+  told = rw c.in_ok-push.ensures.items (told_more c.args.bytes.now _ _ _ c.loop-tokens.tokens.items c.in_ok-token.field-0 c.in-Some.token c.in_ok-grammar_token.field-0 c.loop-tokens.invariant.text c.in_ok-token.ensures.next c.in-Some.is c.in_ok-grammar_token.ensures c.loop-tokens.invariant.told);
   bad = bad_more c.args.bytes.now _ _ _ _ c.in_ok-token.field-0 c.in-Some.token c.loop-tokens.invariant.text c.in_ok-token.ensures.next c.in-Some.is c.loop-tokens.invariant.bad;
 }
 
