@@ -636,8 +636,8 @@ const FOREIGN_ROWS: &[([&str; 2], &str)] = &[
     (["Item { onFoo: var a = ", " }"], "Unsupported 1:23"),
     (["Item { x: a ", " b }"], "Syntax 1:13"),
     (["Item { onFoo: a ", " b }"], "Syntax 1:17"),
-    (["Item { onFoo: for (", ";;) a }"], "Syntax 1:20"),
-    (["Item { onFoo: for (;;", ") a }"], "Syntax 1:22"),
+    (["Item { onFoo: for (", ";;) a }"], "Unsupported 1:20"),
+    (["Item { onFoo: for (;;", ") a }"], "Unsupported 1:22"),
     (["", " { }"], "Syntax 1:1"),
 ];
 

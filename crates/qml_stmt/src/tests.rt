@@ -323,7 +323,7 @@ fn faults(rt: HostRuntime) -> Result<(), Fail> {
         ("for ( let a = 1 ; ; ) b", "Syntax 3"),
         ("for ( var a ; ; ) b", "Syntax 5"),
         ("for ( [ ] ; ; ) b", "Unsupported 3"),
-        ("for ( switch ; ; ) b", "Syntax 3"),
+        ("for ( switch ; ; ) b", "Unsupported 3"),
         ("for ( ; a )", "Syntax 5"),
         ("for ( ; ; ; ) b", "Syntax 5"),
         ("for ( ; ; )", "Syntax 6"),
