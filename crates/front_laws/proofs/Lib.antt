@@ -1,8 +1,10 @@
 pub mod DocumentTokens
 pub mod Faulted
+pub mod Going
 pub mod Moved
 pub mod MovedDocuments
 pub mod ParamFronts
 pub mod StatementFronts
 pub mod ValueFronts
+pub mod WholeFronts
 pub mod WordFronts

@@ -1,0 +1,60 @@
+-- Outermost expressions, targets and what changes them: what stands before a fault can go on.
+use Rattle.std.proofs.Common.{◌≡◌, ℕ, suc, ◌+◌, ◌≤◌, ◌⊎◌, inl, inr, Bool, true, false, if◌then◌else◌, List, [], ◌∷◌, ◌++◌, Option, Some, None, Result, Ok, Err, pos, refl, sym, ap, subst, ◌∙◌, arith, append_assoc}
+use Rattle.qml_ast.specs.declared.expr.Expr.{Expr}
+use Rattle.qml_ast.specs.declared.expr.Expr.TheVariants.{Lit, Name, Member}
+use Rattle.qml_ast.specs.declared.fault.DocFault.{DocFault}
+use Rattle.qml_ast.specs.declared.stmt.AssignOp.{AssignOp}
+use Rattle.qml_ast.specs.declared.stmt.AssignOp.TheVariants.{Set}
+use Rattle.qml_ast.specs.declared.stmt.Stmt.{Stmt}
+use Rattle.qml_ast.specs.declared.stmt.Stmt.TheVariants.{Assign}
+use Rattle.qml_ast.specs.declared.value.Value.TheVariants.{Int}
+use Rattle.qml_grammar.specs.ExpressionGrammar.{IsMark, IsOperator, IsExpr, literal, primary, postfix, unary, product, sum, order, equality, conjunction, disjunction}
+use Rattle.qml_grammar.specs.Expressions.{member, whole}
+use Rattle.qml_grammar.specs.Inputs.{Input, Parser, ahead, after, place, take_node, any_name, refusal}
+use Rattle.qml_grammar.specs.Lexemes.{Token, is_mark, same_line, looked_up, assign_operator, step_operator, last_of, name_of, operand_name_of}
+use Rattle.qml_grammar.specs.StatementGrammar.{goes_on, IsWhole, IsTarget, name, member as more_target, IsChange, assign}
+use Rattle.qml_grammar.specs.Statements.{target_name, target_in, target, assigned, stepped, step_or, change_or}
+use Rattle.qml_grammar.specs.declared.mark.Mark.TheVariants.{Dot, Equal}
+use Rattle.grammar_laws.specs.Faults.{IsFaultAt, CanGoOn}
+use Rattle.grammar_laws.specs.Laws.{Way}
+use Rattle.grammar_laws.proofs.Failing.{whole_faults}
+use Rattle.grammar_laws.proofs.Local.{followed, before, onward, bind_err, chosen, not_chosen, chosen_in}
+use Rattle.grammar_laws.proofs.Reading.{full}
+use Rattle.grammar_laws.proofs.Tools.{bind_ok, ahead_some, ahead_gives, named, way_node, way_then, way_token, if_ok, same_input}
+use Rattle.grammar_laws.proofs.Viable.{node_once, name_once, refused_once}
+use Rattle.front_laws.specs.Fronts.{FaultsBehind}
+use Rattle.front_laws.proofs.Going.{HaltsOn, Halts, halts_faults, halts_here, halts_as, halts_behind, halts_token, halts_name, never_err, made_err, halts_while, Completes, completes, the_mark, one, some_name, mark_is}
+use Rattle.front_laws.proofs.Moved.{moved_expr}
+
+-- Expressions
+
+abbrev pub Calm : Option Token → Type 0
+Calm next = goes_on next ≡ false
+
+-- the tokens and others spell an outermost expression
+abbrev pub IsWholeFront : ℕ → List Token → Type 0
+IsWholeFront d = Completes Calm (λ most. IsWhole most (suc d))
+
+abbrev pub one_value : Expr
+one_value = Lit (Int (pos 1))
+
+one_expr : (d : ℕ) → IsExpr d 1 (one ∷ []) one_value
+one_expr d = disjunction (conjunction (equality (order (sum (product (unary (postfix (primary (literal one (Int (pos 1)) refl refl refl refl)))))))))
+
+-- the number 1
+pub one_whole : (most d : ℕ) (next : Option Token) → 200 ≤ most → goes_on next ≡ false → IsWhole most d (one ∷ []) next one_value
+one_whole most d next enough calm = record { nodes = 1; few = omega (arith, enough); spelled = one_expr d; longest = calm }
+
+pub empty_whole : (d : ℕ) → IsWholeFront d []
+empty_whole d = completes (one ∷ []) 200 one_value (omega arith) refl (λ next calm. one_whole 200 (suc d) next (omega arith) calm)
+
+whole_goes_on : (d : ℕ) (ts : List Token) → CanGoOn (IsExpr d) ts → IsWholeFront d ts
+whole_goes_on d ts w = completes w.others (200 + w.nodes) w.value (omega arith) refl (λ next calm. record { nodes = w.nodes; few = omega arith; spelled = moved_expr w.spelled; longest = calm })
+
+pub whole_halts : (d : ℕ) (i : Input) (e : DocFault) → whole d i ≡ Err e → Halts (IsWholeFront d) i e
+whole_halts d i e h =
+    let c = whole_faults d i e h in
+    record { nodes = c.nodes; text = c.text; at = c.at; way = c.way; place = c.place; front = whole_goes_on d c.text c.before }
+
+pub whole_fails : (d : ℕ) (i : Input) (e : DocFault) → whole d i ≡ Err e → FaultsBehind (IsWholeFront d) (whole d) i e
+whole_fails d i e h = halts_faults (whole d) (whole_halts d i e h)
