@@ -1,5 +1,5 @@
+pub mod DocumentSteps
 pub mod DocumentTokens
-pub mod Faulted
 pub mod Going
 pub mod Moved
 pub mod MovedDocuments
