@@ -162,7 +162,7 @@ module _ (d : ℕ) (v : Under) (inside : SoundUnder d v) where
 
   -- Members of words
 
-  id_covers : (i : Input) → is_word ww.Id (ahead i) ≡ true → (x : Member) (j : Input) → id_member i ≡ Ok (x, j) → Covers (IsShortMember 200 d) i j x
+  pub id_covers : (i : Input) → is_word ww.Id (ahead i) ≡ true → (x : Member) (j : Input) → id_member i ≡ Ok (x, j) → Covers (IsShortMember 200 d) i j x
   unfolding id_member
   id_covers i h x j r =
       let t = ahead_some (is_word ww.Id) refl i h in
@@ -233,7 +233,7 @@ module _ (d : ℕ) (v : Under) (inside : SoundUnder d v) where
         spelled = r.spelled;
       }
 
-  property_covers : (i : Input) → is_word ww.Property (ahead i) ≡ true → (x : Member) (j : Input) → property d v false i ≡ Ok (x, j) → Covers (IsShortMember 200 d) i j x
+  pub property_covers : (i : Input) → is_word ww.Property (ahead i) ≡ true → (x : Member) (j : Input) → property d v false i ≡ Ok (x, j) → Covers (IsShortMember 200 d) i j x
   unfolding property
   property_covers i h x j r =
       let t = ahead_some (is_word ww.Property) refl i h in
@@ -244,7 +244,7 @@ module _ (d : ℕ) (v : Under) (inside : SoundUnder d v) where
         spelled = a_property t.token p.kind p.name p.text p.kind_text p.name_text p.value p.at refl p.is t.is p.kind_is p.no_alias p.name_is p.spelled;
       }
 
-  fixed_covers : (i : Input) → is_word ww.ReadOnly (ahead i) ≡ true → (x : Member) (j : Input) → fixed_property d v i ≡ Ok (x, j) → Covers (IsShortMember 200 d) i j x
+  pub fixed_covers : (i : Input) → is_word ww.ReadOnly (ahead i) ≡ true → (x : Member) (j : Input) → fixed_property d v i ≡ Ok (x, j) → Covers (IsShortMember 200 d) i j x
   unfolding fixed_property property
   fixed_covers i h x j r =
       let t = ahead_some (is_word ww.ReadOnly) refl i h in
@@ -260,7 +260,7 @@ module _ (d : ℕ) (v : Under) (inside : SoundUnder d v) where
         | inr a ↦ absurd (let e = a.1 in cc)
       ]
 
-  signal_covers : (i : Input) → is_word ww.Signal (ahead i) ≡ true → (x : Member) (j : Input) → signal_member i ≡ Ok (x, j) → Covers (IsShortMember 200 d) i j x
+  pub signal_covers : (i : Input) → is_word ww.Signal (ahead i) ≡ true → (x : Member) (j : Input) → signal_member i ≡ Ok (x, j) → Covers (IsShortMember 200 d) i j x
   unfolding signal_member
   signal_covers i h x j r =
       let t = ahead_some (is_word ww.Signal) refl i h in
@@ -299,7 +299,7 @@ module _ (d : ℕ) (v : Under) (inside : SoundUnder d v) where
         spelled = an_initialised q.token q.others o c.text p y.init y.span refl (ap (λ s. mm.Init p y.init y.span s) (placed q.way)) q.spelled plain colon c.spelled;
       }) a.onward
 
-  path_covers : (i : Input) → is_own_word (ahead i) ≡ false → (x : Member) (j : Input) → path_member d v i ≡ Ok (x, j) → Covers (IsShortMember 200 d) i j x
+  pub path_covers : (i : Input) → is_own_word (ahead i) ≡ false → (x : Member) (j : Input) → path_member d v i ≡ Ok (x, j) → Covers (IsShortMember 200 d) i j x
   unfolding path_member behind_path
   path_covers i own x j h =
       let a = bind_ok (path i) _ _ h in
@@ -423,7 +423,7 @@ module _ (d : ℕ) (v : Under) (inside : SoundUnder d v) where
 
   -- Entries of groups
 
-  entry_covers : (n : List ℕ) (i : Input) (x : Member) (j : Input) → entry d v n i ≡ Ok (x, j) → Covers (IsEntry 200 d n) i j x
+  pub entry_covers : (n : List ℕ) (i : Input) (x : Member) (j : Input) → entry d v n i ≡ Ok (x, j) → Covers (IsEntry 200 d n) i j x
   unfolding entry
   entry_covers n i x j h =
       let a = bind_ok (entry_name i) _ _ h in

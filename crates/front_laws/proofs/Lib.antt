@@ -1,6 +1,7 @@
 pub mod DocumentSteps
 pub mod DocumentTokens
 pub mod Going
+pub mod MemberFronts
 pub mod Moved
 pub mod MovedDocuments
 pub mod ParamFronts

@@ -20,7 +20,7 @@ use Rattle.grammar_laws.proofs.Viable.{name_once}
 use Rattle.statement_laws.specs.Laws.{Covers}
 use Rattle.statement_laws.proofs.Ways.{covers_to}
 use Rattle.document_laws.proofs.Commas.{another, items_until_paren}
-use Rattle.document_laws.proofs.Params.{kind_named}
+use Rattle.document_laws.proofs.Params.{kind_named, signal_param_covers, IsMethodParam, method, method_param_covers}
 use Rattle.document_laws.proofs.Steps.{Anyhow, placed}
 use Rattle.front_laws.proofs.DocumentSteps.{unsupported_place, expect_place, never, behind_mark, behind_name, Adding, while_grown, while_halts, Becoming}
 use Rattle.front_laws.proofs.DocumentTokens.{lower_name, a_lower, lower_is}
@@ -110,22 +110,6 @@ module _ {A : Type 0} (item : Parser A) (Item : List Token → A → Type 0) (Li
 
 -- Parameters of signals
 
-signal_at : (k n : List ℕ) {a b c d : Span} → a ≡ c → b ≡ d → ◌≡◌ {A = SignalParam} (record { kind = k; name = n; kind_span = a; name_span = b }) (record { kind = k; name = n; kind_span = c; name_span = d })
-signal_at k n e f = λ l. record { kind = k; name = n; kind_span = e l; name_span = f l }
-
-signal_param_covers : (i : Input) (x : SignalParam) (j : Input) → signal_param i ≡ Ok (x, j) → Covers (Anyhow IsSignalParam) i j x
-unfolding signal_param
-signal_param_covers i x j h =
-    let a = bind_ok (kind i) _ _ h in
-    let t = kind_named i a.at a.value a.first in
-    let b = bind_ok (any_name a.at) _ _ a.onward in
-    let u = named a.at b.at b.value b.first in
-    covers_to (record {
-      text = t.token ∷ u.token ∷ [];
-      way = way_then t.way u.way;
-      spelled = param t.token u.token a.value b.value refl (signal_at a.value b.value (placed t.way) (placed u.way)) t.is u.is;
-    }) b.onward
-
 two_names : (ts us : List Token) (t u : Token) (k n : List ℕ) → t ∷ u ∷ [] ≡ ts ++ us → IsName t k → IsName u n → Becoming IsSignalParam ts
 two_names ts us t u k n e first second = fills us 200 (record { kind = k; name = n; kind_span = t.span; name_span = u.span }) (omega arith) e (param t u k n refl refl first second)
 
@@ -162,17 +146,6 @@ signal_params_halt i e h = elim (if_ok (is_mark OpenParen (ahead i)) _ _ _ h) [
 ]
 
 -- Parameters of methods
-
--- Name
-data IsMethodParam : List Token → MethodParam → Type 0 where
-  method : {ts : List Token} {x : MethodParam} (t : Token) (n : List ℕ) → ts ≡ t ∷ [] → x ≡ record { name = n; span = t.span } → IsName t n → IsMethodParam ts x
-
-method_param_covers : (i : Input) (x : MethodParam) (j : Input) → method_param i ≡ Ok (x, j) → Covers (Anyhow IsMethodParam) i j x
-unfolding method_param
-method_param_covers i x j h =
-    let a = bind_ok (any_name i) _ _ h in
-    let t = named i a.at a.value a.first in
-    covers_to (record { text = t.token ∷ []; way = t.way; spelled = method t.token a.value refl (ap (λ s. record { name = a.value; span = s }) (placed t.way)) t.is }) a.onward
 
 method_param_halts : (i : Input) (e : DocFault) → method_param i ≡ Err e → Halts (Becoming IsMethodParam) i e
 unfolding method_param
