@@ -2,12 +2,13 @@
 use Rattle.std.proofs.Common.{◌≡◌, ℕ, zero, suc, ◌+◌, ◌≤◌, ◌⊎◌, inl, inr, Bool, true, false, List, [], ◌∷◌, ◌++◌, length, Option, Some, None, Result, Ok, Err, pos, refl, sym, ap, subst, ◌∙◌, arith, append_assoc}
 use Rattle.std.proofs.lemmas.List.{append-nil}
 use Rattle.qml_ast.specs.declared.fault.DocFault.{DocFault}
+use Rattle.qml_grammar.specs.Ends.{since, may_end, end_behind, ended}
 use Rattle.qml_grammar.specs.ExpressionGrammar.{IsMark}
 use Rattle.qml_grammar.specs.Inputs.{Input, Parser, ahead, after, place, take_token, expect, any_name, repeated, while_next}
-use Rattle.qml_grammar.specs.Lexemes.{Lexeme, plain, integer, mark, Token, head, tail, is_mark, name_of}
+use Rattle.qml_grammar.specs.Lexemes.{Lexeme, plain, integer, mark, Token, tail, last_of, is_mark, name_of}
 use Rattle.qml_grammar.specs.Marks.{same_mark, mark_number}
 use Rattle.qml_grammar.specs.declared.mark.Mark.{Mark}
-use Rattle.qml_grammar.specs.declared.mark.Mark.TheVariants.{OpenBrace}
+use Rattle.qml_grammar.specs.declared.mark.Mark.TheVariants.{OpenBrace, Semicolon}
 use Rattle.grammar_laws.specs.Faults.{IsFaultAt}
 use Rattle.grammar_laws.specs.Laws.{Way}
 use Rattle.grammar_laws.proofs.Local.{followed, before, onward, bind_err}
@@ -44,6 +45,9 @@ halts_here {V = V} {pre = pre} {i = i} at front = record { nodes = 0; text = [];
 pub halts_as : {V W : List Token → Type 0} {pre : List Token} {i : Input} {e : DocFault} → ((us : List Token) → W us → V (pre ++ us)) → Halts W i e → HaltsOn V pre i e
 halts_as f h = record { nodes = h.nodes; text = h.text; at = h.at; way = h.way; place = h.place; front = f h.text h.front }
 
+pub halts_map : {V W : List Token → Type 0} {pre : List Token} {i : Input} {e : DocFault} → ((us : List Token) → W us → V us) → HaltsOn W pre i e → HaltsOn V pre i e
+halts_map {pre = pre} f h = record { nodes = h.nodes; text = h.text; at = h.at; way = h.way; place = h.place; front = f (pre ++ h.text) h.front }
+
 -- likewise, by the way to the fault
 pub halts_by : {V W : List Token → Type 0} {pre : List Token} {i : Input} {e : DocFault} → ((us : List Token) (n : ℕ) (j : Input) → Way i j n us → W us → V (pre ++ us)) → Halts W i e → HaltsOn V pre i e
 halts_by f h = record { nodes = h.nodes; text = h.text; at = h.at; way = h.way; place = h.place; front = f h.text h.nodes h.at h.way h.front }
@@ -61,7 +65,7 @@ halts_behind {V = V} {pre = pre} {n = n} {ts = ts} w h = record {
 
 -- One reading after another one
 
-expect_place : (m : Mark) (i : Input) (e : DocFault) → expect m i ≡ Err e → IsFaultAt e (place i)
+pub expect_place : (m : Mark) (i : Input) (e : DocFault) → expect m i ≡ Err e → IsFaultAt e (place i)
 expect_place m i e h = elim (if_ok (is_mark m (ahead i)) _ _ _ h) [
   | inl a ↦ absurd (let g = a.1 in cc)
   | inr a ↦ (refused_once {A = Unit {0}} i e a.1).place
@@ -75,14 +79,14 @@ module _ {V : List Token → Type 0} {pre : List Token} where
   ]
 
   -- behind the next token, whatever it is
-  pub halts_token : {B : Type 0} (f : Unit {0} → Parser B) (i : Input) (t : Token) → i.rest ≡ t ∷ tail i.rest → ((e : DocFault) → f tt (after i) ≡ Err e → HaltsOn V (pre ++ t ∷ []) (after i) e) → (e : DocFault) → followed take_token f i ≡ Err e → HaltsOn V pre i e
-  halts_token f i t rest second e h = halts_behind (way_token t rest) (second e h)
+  pub halts_token : {B : Type 0} (f : Unit {0} → Parser B) (i : Input) (t : Token) → i.rest ≡ t ∷ tail i.rest → ((u : Unit {0}) (k : Input) (e : DocFault) → Way i k 0 (t ∷ []) → f u k ≡ Err e → HaltsOn V (pre ++ t ∷ []) k e) → (e : DocFault) → followed take_token f i ≡ Err e → HaltsOn V pre i e
+  halts_token f i t rest second e h = halts_behind (way_token t rest) (second tt (after i) e (way_token t rest) h)
 
   -- behind a mark that may be missing
-  pub halts_expect : {B : Type 0} (m : Mark) (f : Unit {0} → Parser B) (i : Input) → V pre → ((t : Token) (k : Input) (e : DocFault) → IsMark t m → Way i k 0 (t ∷ []) → f tt k ≡ Err e → HaltsOn V (pre ++ t ∷ []) k e) → (e : DocFault) → followed (expect m) f i ≡ Err e → HaltsOn V pre i e
+  pub halts_expect : {B : Type 0} (m : Mark) (f : Unit {0} → Parser B) (i : Input) → V pre → ((t : Token) (u : Unit {0}) (k : Input) (e : DocFault) → IsMark t m → Way i k 0 (t ∷ []) → f u k ≡ Err e → HaltsOn V (pre ++ t ∷ []) k e) → (e : DocFault) → followed (expect m) f i ≡ Err e → HaltsOn V pre i e
   halts_expect m f i none second e h = elim (bind_err (expect m i) _ _ h) [
     | before g ↦ halts_here (expect_place m i e g) none
-    | onward u k g g2 ↦ (let t = expected m i k u g in halts_behind t.way (second t.token k e t.is t.way g2))
+    | onward u k g g2 ↦ (let t = expected m i k u g in halts_behind t.way (second t.token u k e t.is t.way g2))
   ]
 
   -- behind a name that may be missing
@@ -100,6 +104,33 @@ pub made_err : {A B : Type 0} (p : Parser A) (make : A → B) (i : Input) (e : D
 made_err p make i e h = elim (bind_err (p i) _ _ h) [
   | before g ↦ g
   | onward x k g g2 ↦ absurd (never_err (make x) k e g2)
+]
+
+-- What has an end
+
+-- between the inputs stand tokens that are such
+pub record Between (V : List Token → Type 0) (i k : Input) : Type 0 where
+  pub nodes : ℕ
+  pub text : List Token
+  pub way : Way i k nodes text
+  pub front : V text
+
+end_place : (last : Option Token) (i : Input) (e : DocFault) → end_behind last i ≡ Err e → IsFaultAt e (place i)
+unfolding end_behind
+end_place last i e h = elim (if_ok (is_mark Semicolon (ahead i)) _ _ _ h) [
+  | inl a ↦ absurd (let g = a.1 in cc)
+  | inr a ↦ elim (if_ok (may_end last (ahead i)) _ _ _ a.1) [
+    | inl b ↦ absurd (never_err tt i e b.1)
+    | inr b ↦ (refused_once {A = Unit {0}} i e b.1).place
+  ]
+]
+
+-- what the parser reads fails, or its end, which is then put in
+pub halts_ended : {A : Type 0} {V : List Token → Type 0} (p : Parser A) (i : Input) → ((e : DocFault) → p i ≡ Err e → Halts V i e) → ((x : A) (k : Input) → p i ≡ Ok (x, k) → Between V i k) → (e : DocFault) → ended p i ≡ Err e → Halts V i e
+unfolding ended
+halts_ended p i first read e h = elim (bind_err (p i) _ _ h) [
+  | before g ↦ first e g
+  | onward x k g g2 ↦ (let c = read x k g in halts_behind c.way (halts_here (end_place _ k e (made_err (end_behind (last_of (since i.rest k.rest))) (λ u. x) k e g2)) c.front))
 ]
 
 -- Loops

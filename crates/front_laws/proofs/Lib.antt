@@ -1,10 +1,14 @@
+pub mod ChangeFronts
 pub mod DocumentSteps
 pub mod DocumentTokens
+pub mod ForFronts
 pub mod Going
 pub mod MemberFronts
 pub mod Moved
 pub mod MovedDocuments
+pub mod NestedFronts
 pub mod ParamFronts
+pub mod PartFronts
 pub mod StatementFronts
 pub mod ValueFronts
 pub mod WholeFronts

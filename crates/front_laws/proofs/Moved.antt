@@ -10,7 +10,7 @@ use Rattle.qml_grammar.specs.Lexemes.{Lexeme, mark, Token, is_mark, is_mark_lexe
 use Rattle.qml_grammar.specs.Marks.{same_mark, mark_number}
 use Rattle.qml_grammar.specs.StatementGrammar.{follow, goes_on, changes_on, IsEnd, semicolon, nothing, IsWhole, IsTarget, IsChange, assign, step, IsShort, local, local_set, change, act, leave, leave_with, IsSimple, IsMaybeSimple, IsMaybeWhole, IsCondition, parens as in_parens, AreParts, parts, IsStmt, short, block, empty, when, when_else, loop, count, IsBlock, braces, AreStmts}
 use Rattle.qml_grammar.specs.declared.mark.Mark.{Mark}
-use Rattle.qml_grammar.specs.declared.mark.Mark.TheVariants.{CloseBrace, Semicolon, Equal}
+use Rattle.qml_grammar.specs.declared.mark.Mark.TheVariants.{CloseBrace, CloseParen, Semicolon, Equal}
 use Rattle.qml_grammar.specs.declared.word.Word.TheVariants as ww
 
 -- What follows
@@ -28,19 +28,43 @@ follow_becomes (u ∷ us) b = same refl
 abbrev pub brace_at : Span → Token
 brace_at s = record { lexeme = mark CloseBrace; span = s }
 
-mark_is_brace : (m : Mark) → same_mark CloseBrace m ≡ true → m ≡ CloseBrace
-unfolding same_mark mark_number
-mark_is_brace CloseBrace h = refl
-mark_is_brace _ h = absurd cc
+-- a test has this answer on a mark wherever it stands
+module _ (m : Mark) (only : (n : Mark) → same_mark m n ≡ true → n ≡ m) where
+  lexeme_is_mark : (l : Lexeme) → is_mark_lexeme m l ≡ true → l ≡ mark m
+  lexeme_is_mark (mark n) h = ap mark (only n h)
+  lexeme_is_mark _ h = absurd cc
 
-lexeme_is_brace : (l : Lexeme) → is_mark_lexeme CloseBrace l ≡ true → l ≡ mark CloseBrace
-lexeme_is_brace (mark m) h = ap mark (mark_is_brace m h)
-lexeme_is_brace _ h = absurd cc
+  mark_tests : (test : Option Token → Bool) {answer : Bool} → ((s : Span) → test (Some (record { lexeme = mark m; span = s })) ≡ answer) → (next : Option Token) → is_mark m next ≡ true → test next ≡ answer
+  mark_tests test there None h = absurd cc
+  mark_tests test there (Some t) h = ap (λ l. test (Some (record { lexeme = l; span = t.span }))) (lexeme_is_mark t.lexeme h) ∙ there t.span
+
+brace_only : (m : Mark) → same_mark CloseBrace m ≡ true → m ≡ CloseBrace
+unfolding same_mark mark_number
+brace_only CloseBrace h = refl
+brace_only _ h = absurd cc
+
+semicolon_only : (m : Mark) → same_mark Semicolon m ≡ true → m ≡ Semicolon
+unfolding same_mark mark_number
+semicolon_only Semicolon h = refl
+semicolon_only _ h = absurd cc
+
+close_only : (m : Mark) → same_mark CloseParen m ≡ true → m ≡ CloseParen
+unfolding same_mark mark_number
+close_only CloseParen h = refl
+close_only _ h = absurd cc
 
 -- a test has this answer on a `}` wherever it stands
 pub brace_tests : (test : Option Token → Bool) {answer : Bool} → ((s : Span) → test (Some (brace_at s)) ≡ answer) → (next : Option Token) → is_mark CloseBrace next ≡ true → test next ≡ answer
-brace_tests test there None h = absurd cc
-brace_tests test there (Some t) h = ap (λ l. test (Some (record { lexeme = l; span = t.span }))) (lexeme_is_brace t.lexeme h) ∙ there t.span
+brace_tests = mark_tests CloseBrace brace_only
+
+-- no expression goes on with a `;` or a `)`
+pub semicolon_stops : (next : Option Token) → is_mark Semicolon next ≡ true → goes_on next ≡ false
+unfolding same_mark mark_number
+semicolon_stops = mark_tests Semicolon semicolon_only goes_on (λ s. refl)
+
+pub close_stops : (next : Option Token) → is_mark CloseParen next ≡ true → goes_on next ≡ false
+unfolding same_mark mark_number
+close_stops = mark_tests CloseParen close_only goes_on (λ s. refl)
 
 -- a test keeps its answer that it has on a `}`
 pub becomes_keeps : (test : Option Token → Bool) {answer : Bool} → ((s : Span) → test (Some (brace_at s)) ≡ answer) → {next next' : Option Token} → Becomes next next' → test next ≡ answer → test next' ≡ answer

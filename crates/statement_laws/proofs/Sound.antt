@@ -54,7 +54,7 @@ row us vs ws t = sym (append_assoc us vs (t ∷ ws))
 
 -- Statements in a row
 
-are_stmts : {d : ℕ} {ts : List Token} {next : Option Token} {xs : List Stmt} → Items (Single (IsStmt 200 d)) ts next xs → AreStmts 200 d ts next xs
+pub are_stmts : {d : ℕ} {ts : List Token} {next : Option Token} {xs : List Stmt} → Items (Single (IsStmt 200 d)) ts next xs → AreStmts 200 d ts next xs
 are_stmts (no_item ts_is xs_is) = AreStmts.none ts_is xs_is
 are_stmts (an_item us vs ys zs ts_is xs_is p ps) = AreStmts.more us vs p.value zs ts_is (xs_is ∙ ap (λ ws. ws ++ zs) p.alone) p.is (are_stmts ps)
 
@@ -271,7 +271,7 @@ module _ (d : ℕ) (v : Bodies) (inside : SoundInside d v) where
 
   -- Blocks
 
-  one_more_adds : (xs : List Stmt) (i : Input) (ys : List Stmt) (j : Input) → goes_on_inside (ahead i) ≡ true → one_more d v xs i ≡ Ok (ys, j) → Added (Single (IsStmt 200 d)) xs i ys j
+  pub one_more_adds : (xs : List Stmt) (i : Input) (ys : List Stmt) (j : Input) → goes_on_inside (ahead i) ≡ true → one_more d v xs i ≡ Ok (ys, j) → Added (Single (IsStmt 200 d)) xs i ys j
   unfolding one_more
   one_more_adds xs i ys j t h =
       let b = bind_ok (statement_in d v i) _ _ h in
