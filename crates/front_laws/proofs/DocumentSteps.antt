@@ -1,18 +1,18 @@
 -- Steps of readings that fail, with what was read before them, and what goes on before a `}`.
-use Rattle.std.proofs.Common.{◌≡◌, ℕ, zero, suc, ◌≤◌, Bool, true, List, [], ◌∷◌, ◌++◌, length, Option, Some, Result, Ok, Err, inl, inr, refl, sym, subst, subst₂, arith, append_assoc, append-nil}
+use Rattle.std.proofs.Common.{◌≡◌, ℕ, zero, suc, ◌≤◌, Bool, true, List, [], ◌∷◌, ◌++◌, length, Option, Some, Result, Ok, Err, sym, subst, subst₂, arith, append_assoc, append-nil}
 use Rattle.qml_ast.specs.declared.fault.DocFault.{DocFault}
 use Rattle.qml_ast.specs.declared.fault.DocFault.TheVariants.{Unsupported}
 use Rattle.qml_grammar.specs.Inputs.{Input, Parser, ahead, place, refusal, expect, any_name, repeated, while_next}
 use Rattle.qml_grammar.specs.Lexemes.{Token, name_of, is_mark}
 use Rattle.qml_grammar.specs.declared.mark.Mark.{Mark}
-use Rattle.qml_grammar.specs.declared.mark.Mark.TheVariants.{CloseBrace}
 use Rattle.grammar_laws.specs.Faults.{IsFaultAt, unsupported}
 use Rattle.grammar_laws.specs.Laws.{Way}
 use Rattle.grammar_laws.proofs.Growing.{went_on, stopped, went}
 use Rattle.grammar_laws.proofs.Local.{before, onward, bind_err}
-use Rattle.grammar_laws.proofs.Tools.{way_none, way_then, if_ok, expected, named, same_value, same_input}
+use Rattle.grammar_laws.proofs.Tools.{way_none, way_then, expected, named, same_value, same_input}
 use Rattle.grammar_laws.proofs.Viable.{same_fault, refused_once, name_once, now, later, stuck_on}
-use Rattle.front_laws.proofs.Going.{HaltsOn, halts_here, halts_behind, never_err, Completes, completes, Fills}
+use Rattle.front_laws.proofs.Going.{HaltsOn, halts_here, halts_behind, expect_place, never_err, Completes, completes, Fills}
+use Rattle.front_laws.proofs.PartFronts.{Brace}
 
 -- Faults at the next token
 
@@ -21,12 +21,6 @@ refused_place {A = A} i e h = (refused_once {A = A} i e h).place
 
 pub unsupported_place : {A : Type 0} (i : Input) (e : DocFault) → ◌≡◌ {A = Result (A × Input) DocFault} (Err (Unsupported (place i))) (Err e) → IsFaultAt e (place i)
 unsupported_place {A = A} i e h = unsupported (sym (same_fault {A = A} (Unsupported (place i)) e h))
-
-pub expect_place : (m : Mark) (i : Input) (e : DocFault) → expect m i ≡ Err e → IsFaultAt e (place i)
-expect_place m i e h = elim (if_ok (is_mark m (ahead i)) _ _ _ h) [
-  | inl a ↦ absurd (let g = a.1 in cc)
-  | inr a ↦ refused_place {A = Unit {0}} i e a.1
-]
 
 -- what gives a value doesn't fail
 pub never : {A X : Type 0} (x : A) (i : Input) (e : DocFault) → ◌≡◌ {A = Result (A × Input) DocFault} (Ok (x, i)) (Err e) → X
@@ -103,17 +97,14 @@ module _ {A : Type 0} (Spells : List Token → Option Token → A → Type 0) (t
 
 -- What goes on
 
-abbrev pub IsBrace : Option Token → Type 0
-IsBrace next = is_mark CloseBrace next ≡ true
-
 -- with others behind them the tokens spell this before a `}`
 abbrev pub Onward : {A : Type 0} → (ℕ → List Token → Option Token → A → Type 0) → List Token → Type 0
-Onward Spells ts = Completes IsBrace Spells ts
+Onward Spells ts = Completes Brace Spells ts
 
 -- with others behind them the tokens are this, whatever the nodes and what follows
 abbrev pub Becoming : {A : Type 0} → (List Token → A → Type 0) → List Token → Type 0
 Becoming Spells ts = Fills (λ most. Spells) ts
 
 -- these others behind them spell it
-pub goes_with : {A : Type 0} {Spells : ℕ → List Token → Option Token → A → Type 0} {ts us : List Token} (others : List Token) (x : A) → us ≡ ts ++ others → ((next : Option Token) → IsBrace next → Spells 200 us next x) → Onward Spells ts
+pub goes_with : {A : Type 0} {Spells : ℕ → List Token → Option Token → A → Type 0} {ts us : List Token} (others : List Token) (x : A) → us ≡ ts ++ others → ((next : Option Token) → Brace next → Spells 200 us next x) → Onward Spells ts
 goes_with others x e p = completes others 200 x (omega arith) e p

@@ -9,7 +9,7 @@ use Rattle.qml_ast.specs.declared.path.Path.{Path}
 use Rattle.qml_ast.specs.declared.stmt.Stmt.TheVariants.{Empty}
 use Rattle.qml_grammar.specs.DocumentGrammar.{IsName, is_own_word, IsPath, one, two, IsShortMember, initialised as an_initialised, handled as a_handled, IsMember, short, group as a_group, child as a_child, IsEntry, entry as an_entry}
 use Rattle.qml_grammar.specs.Documents.{Under, object_in, value_in, id_member, property, fixed_property, signal_member, method, second_name, path_behind, path, handled, initialised, behind_path, path_member, entry_name, entry, alone, child, grouped, begins_on, opens_or_on, is_unsupported_member, named_member, other_member, member_in}
-use Rattle.qml_grammar.specs.Ends.{may_end, end_behind, ended}
+use Rattle.qml_grammar.specs.Ends.{ended}
 use Rattle.qml_grammar.specs.ExpressionGrammar.{IsMark}
 use Rattle.qml_grammar.specs.Inputs.{Input, Parser, ahead, after, place, expect, any_name}
 use Rattle.qml_grammar.specs.Lexemes.{Token, head, tail, is_mark, is_word, name_of, last_of}
@@ -32,11 +32,12 @@ use Rattle.document_laws.proofs.Paths.{PathRead, path_read, entry_name_read}
 use Rattle.document_laws.proofs.Sound.{SoundUnder, id_covers, property_covers, fixed_covers, signal_covers, path_covers, entry_covers}
 use Rattle.document_laws.proofs.Steps.{first_is}
 use Rattle.document_laws.proofs.Tokens.{own_not, upper_not_own}
-use Rattle.front_laws.proofs.DocumentSteps.{refused_place, unsupported_place, expect_place, never, behind_mark, behind_name, IsBrace, Onward, goes_with}
+use Rattle.front_laws.proofs.DocumentSteps.{refused_place, unsupported_place, never, behind_mark, behind_name, Onward, goes_with}
 use Rattle.front_laws.proofs.DocumentTokens.{lower_name, a_lower, an_upper, in_braces, lower_is, lower_no_handler, lower_not_own}
-use Rattle.front_laws.proofs.Going.{HaltsOn, Halts, halts_here, halts_as, halts_behind, faults_halts, made_err, completes, the_mark, mark_is}
-use Rattle.front_laws.proofs.Moved.{Becomes, brace, brace_ends}
-use Rattle.front_laws.proofs.MovedDocuments.{brace_no_mark, moved_short, moved_entry}
+use Rattle.front_laws.proofs.Going.{HaltsOn, Halts, halts_here, halts_as, halts_behind, faults_halts, made_err, halts_ended, completes, the_mark, mark_is}
+use Rattle.front_laws.proofs.PartFronts.{Brace}
+use Rattle.front_laws.proofs.Moved.{Becomes, brace, brace_ends, brace_no_semicolon}
+use Rattle.front_laws.proofs.MovedDocuments.{moved_short}
 use Rattle.front_laws.proofs.StatementFronts.{IsStmtFrontFor, statement_fails}
 use Rattle.front_laws.proofs.ValueFronts.{IsValueFront, IsObjectFront, IsGroupFront, FrontsUnder, empty_body, empty_group, named_object, missing_object, some_object, missing_value, object_halts, value_halts}
 use Rattle.front_laws.proofs.WordFronts.{IsShortFront, IsMemberFront, id_halts, property_halts, fixed_halts, signal_halts, method_halts}
@@ -44,36 +45,23 @@ use Rattle.front_laws.proofs.WordFronts.{IsShortFront, IsMemberFront, id_halts, 
 -- What has an end
 
 -- nothing more is wanted before a `}`
-pub end_at_brace : (last next : Option Token) → IsBrace next → IsEnd last [] next
-unfolding same_mark mark_number
-end_at_brace last next b = nothing refl (brace_no_mark Semicolon refl next b) (brace_ends last next b)
-
-end_place : (last : Option Token) (i : Input) (e : DocFault) → end_behind last i ≡ Err e → IsFaultAt e (place i)
-unfolding end_behind
-end_place last i e h = elim (if_ok (is_mark Semicolon (ahead i)) _ _ _ h) [
-  | inl a ↦ never tt (after i) e a.1
-  | inr a ↦ elim (if_ok (may_end last (ahead i)) _ _ _ a.1) [
-    | inl b ↦ never tt i e b.1
-    | inr b ↦ refused_place {A = Unit {0}} i e b.1
-  ]
-]
+pub end_at_brace : (last next : Option Token) → Brace next → IsEnd last [] next
+end_at_brace last next b = nothing refl (brace_no_semicolon next b) (brace_ends last next b)
 
 module _ {A : Type 0} (Spells : ℕ → List Token → Option Token → A → Type 0) where
   -- with its end
   abbrev WithEnd : ℕ → List Token → Option Token → A → Type 0
   WithEnd most = IsEnded (Spells most)
 
-  ends_there : (most : ℕ) (ts : List Token) (next : Option Token) (x : A) → IsBrace next → Spells most ts next x → WithEnd most ts next x
+  ends_there : (most : ℕ) (ts : List Token) (next : Option Token) (x : A) → Brace next → Spells most ts next x → WithEnd most ts next x
   ends_there most ts next x b p = record { text = ts; end = []; both = sym (append-nil ts); spelled = p; ends = end_at_brace (last_of ts) next b }
 
-  pub ended_halts : (p : Parser A) (Read : List Token → Option Token → A → Type 0) (i : Input) (e : DocFault) → SoundAt p Read i → ((ts : List Token) (next next' : Option Token) (x : A) → Becomes next next' → Read ts next x → Spells 200 ts next' x) → (p i ≡ Err e → Halts (Onward Spells) i e) → ended p i ≡ Err e → Halts (Onward WithEnd) i e
-  unfolding ended
-  ended_halts p Read i e sound moves fails h = elim (bind_err (p i) _ _ h) [
-    | before g ↦ halts_as (λ ts w. completes w.others w.most w.value w.enough refl (λ next b. ends_there w.most (ts ++ w.others) next w.value b (w.spelled next b))) (fails g)
-    | onward x j g g2 ↦ (
-        let c = sound x j g in
-        halts_behind c.way (halts_here (end_place _ j e (made_err (end_behind _) (λ u. x) j e g2)) (goes_with [] x (sym (append-nil c.text)) (λ next b. ends_there 200 c.text next x b (moves c.text (ahead j) next x (brace b) c.spelled)))))
-  ]
+  pub ended_halts : (p : Parser A) (Read : List Token → Option Token → A → Type 0) (i : Input) → SoundAt p Read i → ((ts : List Token) (next next' : Option Token) (x : A) → Becomes next next' → Read ts next x → Spells 200 ts next' x) → ((e : DocFault) → p i ≡ Err e → Halts (Onward Spells) i e) → (e : DocFault) → ended p i ≡ Err e → Halts (Onward WithEnd) i e
+  ended_halts p Read i sound moves fails = halts_ended p i
+      (λ e g. halts_as (λ ts w. completes w.others w.most w.value w.enough refl (λ next b. ends_there w.most (ts ++ w.others) next w.value b (w.spelled next b))) (fails e g))
+      (λ x k g.
+        let c = sound x k g in
+        record { nodes = 0; text = c.text; way = c.way; front = goes_with [] x (sym (append-nil c.text)) (λ next b. ends_there 200 c.text next x b (moves c.text (ahead k) next x (brace b) c.spelled)) })
 
 -- Paths
 
@@ -195,9 +183,9 @@ module _ (d : ℕ) (v : Under) (sound : SoundUnder d v) (inside : FrontsUnder d 
   ]
 
   -- a member with an end, alone
-  short_halts : (p : Parser Member) (i : Input) (e : DocFault) → SoundAt p (IsShortMember 200 d) i → (p i ≡ Err e → Halts (IsShortFront d) i e) → alone (ended p) i ≡ Err e → Halts (IsMemberFront d) i e
+  short_halts : (p : Parser Member) (i : Input) → SoundAt p (IsShortMember 200 d) i → ((e : DocFault) → p i ≡ Err e → Halts (IsShortFront d) i e) → (e : DocFault) → alone (ended p) i ≡ Err e → Halts (IsMemberFront d) i e
   unfolding alone
-  short_halts p i e covers fails h = halts_as (short_on d) (ended_halts (λ most. IsShortMember most (suc d)) p (IsShortMember 200 d) i e covers (λ ts next next' x w s. moved_short (omega arith) w s) fails (made_err (ended p) _ i e h))
+  short_halts p i covers fails e h = halts_as (short_on d) (ended_halts (λ most. IsShortMember most (suc d)) p (IsShortMember 200 d) i covers (λ ts next next' x w s. moved_short (omega arith) w s) fails e (made_err (ended p) _ i e h))
 
   child_halts : (i : Input) (e : DocFault) → child v i ≡ Err e → Halts (IsMemberFront d) i e
   unfolding child
@@ -228,7 +216,7 @@ module _ (d : ℕ) (v : Under) (sound : SoundUnder d v) (inside : FrontsUnder d 
         | inl c ↦ halts_here (unsupported_place {A = List Member} i e c.1) (missing_member d)
         | inr c ↦ elim (if_ok (begins_group i.rest) _ _ _ c.1) [
           | inl f ↦ group_halts i e own f.0 f.1
-          | inr f ↦ short_halts (path_member d v) i e (path_covers d v sound i own) (path_member_halts i e own) f.1
+          | inr f ↦ short_halts (path_member d v) i (path_covers d v sound i own) (λ g k. path_member_halts i g own k) e f.1
         ]
       ]
     ]
@@ -237,13 +225,13 @@ module _ (d : ℕ) (v : Under) (sound : SoundUnder d v) (inside : FrontsUnder d 
   pub member_halts : (i : Input) (e : DocFault) → member_in d v i ≡ Err e → Halts (IsMemberFront d) i e
   unfolding member_in other_member alone
   member_halts i e h = elim (if_ok (is_word ww.Id (ahead i)) _ _ _ h) [
-    | inl a ↦ short_halts id_member i e (id_covers d v sound i a.0) (id_halts d i e a.0) a.1
+    | inl a ↦ short_halts id_member i (id_covers d v sound i a.0) (λ g k. id_halts d i g a.0 k) e a.1
     | inr a ↦ elim (if_ok (is_word ww.Property (ahead i)) _ _ _ a.1) [
-      | inl b ↦ short_halts (property d v false) i e (property_covers d v sound i b.0) (property_halts d v inside i e b.0) b.1
+      | inl b ↦ short_halts (property d v false) i (property_covers d v sound i b.0) (λ g k. property_halts d v inside i g b.0 k) e b.1
       | inr b ↦ elim (if_ok (is_word ww.ReadOnly (ahead i)) _ _ _ b.1) [
-        | inl c ↦ short_halts (fixed_property d v) i e (fixed_covers d v sound i c.0) (fixed_halts d v inside i e c.0) c.1
+        | inl c ↦ short_halts (fixed_property d v) i (fixed_covers d v sound i c.0) (λ g k. fixed_halts d v inside i g c.0 k) e c.1
         | inr c ↦ elim (if_ok (is_word ww.Signal (ahead i)) _ _ _ c.1) [
-          | inl f ↦ short_halts signal_member i e (signal_covers d v sound i f.0) (signal_halts d i e f.0) f.1
+          | inl f ↦ short_halts signal_member i (signal_covers d v sound i f.0) (λ g k. signal_halts d i g f.0 k) e f.1
           | inr f ↦ elim (if_ok (is_word ww.Function (ahead i)) _ _ _ f.1) [
             | inl g ↦ method_halts d i e g.0 (made_err (method d) _ i e g.1)
             | inr g ↦ elim (if_ok (is_unsupported_member (ahead i)) _ _ _ g.1) [

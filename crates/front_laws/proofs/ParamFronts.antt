@@ -22,9 +22,9 @@ use Rattle.statement_laws.proofs.Ways.{covers_to}
 use Rattle.document_laws.proofs.Commas.{another, items_until_paren}
 use Rattle.document_laws.proofs.Params.{kind_named, signal_param_covers, IsMethodParam, method, method_param_covers}
 use Rattle.document_laws.proofs.Steps.{Anyhow, placed}
-use Rattle.front_laws.proofs.DocumentSteps.{unsupported_place, expect_place, never, behind_mark, behind_name, Adding, while_grown, while_halts, Becoming}
+use Rattle.front_laws.proofs.DocumentSteps.{unsupported_place, never, behind_mark, behind_name, Adding, while_grown, while_halts, Becoming}
 use Rattle.front_laws.proofs.DocumentTokens.{lower_name, a_lower, lower_is}
-use Rattle.front_laws.proofs.Going.{HaltsOn, Halts, halts_here, halts_as, halts_behind, made_err, fills, the_mark, mark_is}
+use Rattle.front_laws.proofs.Going.{HaltsOn, Halts, halts_here, halts_as, halts_behind, expect_place, made_err, fills, the_mark, mark_is}
 
 -- Kinds
 

@@ -17,11 +17,12 @@ use Rattle.qml_grammar.specs.declared.mark.Mark.TheVariants.{OpenBrace, CloseBra
 use Rattle.grammar_laws.proofs.First.{expr_begins}
 use Rattle.grammar_laws.proofs.Local.{chosen, not_chosen, chosen_in}
 use Rattle.grammar_laws.proofs.Tools.{if_ok, ahead_gives, way_token}
-use Rattle.front_laws.proofs.DocumentSteps.{refused_place, unsupported_place, IsBrace, Onward}
+use Rattle.front_laws.proofs.DocumentSteps.{refused_place, unsupported_place, Onward}
 use Rattle.front_laws.proofs.DocumentTokens.{upper_name, an_upper, in_braces, upper_is}
 use Rattle.front_laws.proofs.Going.{Halts, halts_here, halts_as, halts_behind, faults_halts, made_err, Fills, fills, the_mark, mark_is}
 use Rattle.front_laws.proofs.Moved.{brace_stops}
 use Rattle.front_laws.proofs.MovedDocuments.{brace_no_mark}
+use Rattle.front_laws.proofs.PartFronts.{Brace}
 use Rattle.front_laws.proofs.StatementFronts.{IsWholeFront, whole_fails, empty_whole}
 
 -- What stands in braces
@@ -81,7 +82,7 @@ named_object d t n us is up w =
 
 -- Values
 
-brace_no_type : (ts : List Token) (next : Option Token) → IsBrace next → IsNoType ts next
+brace_no_type : (ts : List Token) (next : Option Token) → Brace next → IsNoType ts next
 unfolding same_mark mark_number
 brace_no_type ts next b a z names up up_last = brace_no_mark OpenBrace refl next b
 
