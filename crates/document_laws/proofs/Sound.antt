@@ -440,7 +440,7 @@ module _ (d : ℕ) (v : Under) (inside : SoundUnder d v) where
         spelled = an_entry t.token o.token c.text a.value y.init y.span refl (ap (λ s. mm.Init (record { first = n; second = Some a.value }) y.init y.span s) (placed t.way)) t.is m.1 o.is c.spelled;
       }) e.onward
 
-  entry_added : (n : List ℕ) (xs : List Member) (i : Input) (ys : List Member) (j : Input) → goes_on_inside (ahead i) ≡ true → one_entry d v n xs i ≡ Ok (ys, j) → Added (AnEntry d n) xs i ys j
+  pub entry_added : (n : List ℕ) (xs : List Member) (i : Input) (ys : List Member) (j : Input) → goes_on_inside (ahead i) ≡ true → one_entry d v n xs i ≡ Ok (ys, j) → Added (AnEntry d n) xs i ys j
   unfolding one_entry
   entry_added n xs i ys j t h =
       let a = bind_ok (ended (entry d v n) i) _ _ h in
@@ -457,7 +457,7 @@ module _ (d : ℕ) (v : Under) (inside : SoundUnder d v) where
   unfolding entries
   entries_closed n = until_brace_closed (AnEntry d n) (one_entry d v n) (entry_begins d n) (entry_added n)
 
-  member_added : (xs : List Member) (i : Input) (ys : List Member) (j : Input) → goes_on_inside (ahead i) ≡ true → one_member d v xs i ≡ Ok (ys, j) → Added (IsMember 200 d) xs i ys j
+  pub member_added : (xs : List Member) (i : Input) (ys : List Member) (j : Input) → goes_on_inside (ahead i) ≡ true → one_member d v xs i ≡ Ok (ys, j) → Added (IsMember 200 d) xs i ys j
   unfolding one_member
   member_added xs i ys j t h =
       let a = bind_ok (member_in d v i) _ _ h in

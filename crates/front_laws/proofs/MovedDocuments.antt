@@ -110,6 +110,9 @@ moved_maybe {most = most} {d = d} enough w p = maybe_moves most enough d (moved_
 pub moved_short : {most d : ℕ} {ts : List Token} {next next' : Option Token} {x : Member} → 200 ≤ most → Becomes next next' → IsShortMember 200 d ts next x → IsShortMember most (suc d) ts next' x
 moved_short {most = most} {d = d} enough w p = short_moves most enough d (moved_inside most enough d) w p
 
+pub moved_member : {most d : ℕ} {ts : List Token} {next next' : Option Token} {xs : List Member} → 200 ≤ most → Becomes next next' → IsMember 200 d ts next xs → IsMember most (suc d) ts next' xs
+moved_member {most = most} {d = d} enough w p = member_moves most enough d (moved_inside most enough d) w p
+
 pub moved_entry : {most d : ℕ} {n : List ℕ} {ts : List Token} {next next' : Option Token} {x : Member} → 200 ≤ most → Becomes next next' → IsEntry 200 d n ts next x → IsEntry most (suc d) n ts next' x
 moved_entry {most = most} {d = d} enough w p = entry_moves most enough d (moved_inside most enough d) w p
 
