@@ -48,7 +48,7 @@ no_parts (suc k) b i j h = elim (went_on (is_mark Dot) module_part k b i true j 
   | a_step z l t s g ↦ absurd (let e = stays_false k z l true j (part_is_no_name b i z l s) g in cc)
 ]
 
-module_is : (i j : Input) → module_name i ≡ Ok (true, j) → Named (codes "QtQuick") i j
+pub module_is : (i j : Input) → module_name i ≡ Ok (true, j) → Named (codes "QtQuick") i j
 unfolding module_name module_rest while_next
 module_is i j h =
     let a = bind_ok (any_name i) _ _ h in

@@ -3,6 +3,7 @@ pub mod DocumentSteps
 pub mod DocumentTokens
 pub mod ForFronts
 pub mod Going
+pub mod ImportFronts
 pub mod LevelFronts
 pub mod MemberFronts
 pub mod Moved
