@@ -1,4 +1,5 @@
 pub mod ChangeFronts
+pub mod DocumentFronts
 pub mod DocumentSteps
 pub mod DocumentTokens
 pub mod ForFronts
