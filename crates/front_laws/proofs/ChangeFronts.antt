@@ -1,5 +1,5 @@
 -- Targets and what changes them: what stands before a fault can go on.
-use Rattle.std.proofs.Common.{◌≡◌, ℕ, suc, ◌+◌, ◌≤◌, ◌⊎◌, inl, inr, Bool, true, false, if◌then◌else◌, List, [], ◌∷◌, ◌++◌, Option, Some, None, Result, Ok, Err, refl, sym, ap, subst, ◌∙◌, arith, append_assoc}
+use Rattle.std.proofs.Common.{◌≡◌, ℕ, suc, ◌+◌, ◌≤◌, ◌⊎◌, inl, inr, true, List, [], ◌∷◌, ◌++◌, Some, Ok, Err, refl, sym, subst, arith, append_assoc}
 use Rattle.std.proofs.lemmas.List.{append-nil}
 use Rattle.qml_ast.specs.declared.expr.Expr.{Expr}
 use Rattle.qml_ast.specs.declared.expr.Expr.TheVariants.{Name, Member}
@@ -10,8 +10,8 @@ use Rattle.qml_ast.specs.declared.stmt.Stmt.{Stmt}
 use Rattle.qml_ast.specs.declared.stmt.Stmt.TheVariants.{Assign, Step}
 use Rattle.qml_grammar.specs.ExpressionGrammar.{IsMark}
 use Rattle.qml_grammar.specs.Expressions.{member, whole}
-use Rattle.qml_grammar.specs.Inputs.{Input, Parser, ahead, after, place, take_node, any_name, refusal, while_next}
-use Rattle.qml_grammar.specs.Lexemes.{Token, tail, is_mark, same_line, looked_up, assign_operator, step_operator, last_of, name_of, operand_name_of}
+use Rattle.qml_grammar.specs.Inputs.{Input, Parser, ahead, after, place, take_node, any_name, while_next}
+use Rattle.qml_grammar.specs.Lexemes.{Token, is_mark, same_line, looked_up, assign_operator, step_operator, last_of, name_of, operand_name_of}
 use Rattle.qml_grammar.specs.StatementGrammar.{IsTarget, name, member as more_target, IsChange, assign}
 use Rattle.qml_grammar.specs.Statements.{target_name, target_in, target, assigned, stepped, step_or, change_or}
 use Rattle.qml_grammar.specs.declared.mark.Mark.TheVariants.{Dot, Equal}

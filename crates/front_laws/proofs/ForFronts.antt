@@ -1,28 +1,24 @@
 -- `for`: what stands before a fault can go on.
-use Rattle.std.proofs.Common.{◌≡◌, ℕ, suc, ◌≤◌, inl, inr, true, false, List, [], ◌∷◌, ◌++◌, Option, Some, None, Ok, Err, refl, sym, ap, subst, ◌∙◌, arith, append_assoc}
+use Rattle.std.proofs.Common.{◌≡◌, ℕ, suc, ◌≤◌, true, List, [], ◌∷◌, ◌++◌, Option, Some, None, Err, refl, sym, ap, ◌∙◌, arith, append_assoc}
 use Rattle.std.proofs.lemmas.List.{append-nil}
 use Rattle.qml_ast.specs.declared.expr.Expr.{Expr}
 use Rattle.qml_ast.specs.declared.fault.DocFault.{DocFault}
 use Rattle.qml_ast.specs.declared.stmt.Stmt.{Stmt}
 use Rattle.qml_ast.specs.declared.stmt.Stmt.TheVariants.{For}
 use Rattle.qml_grammar.specs.ExpressionGrammar.{IsMark}
-use Rattle.qml_grammar.specs.Inputs.{Input, Parser, ahead, after, expect}
-use Rattle.qml_grammar.specs.Lexemes.{Lexeme, mark, Token, is_mark, is_mark_lexeme, is_word}
-use Rattle.qml_grammar.specs.Marks.{same_mark, mark_number}
-use Rattle.qml_grammar.specs.StatementGrammar.{IsWord, goes_on, IsMaybeSimple, IsMaybeWhole, AreParts, parts, IsStmt, count}
+use Rattle.qml_grammar.specs.Inputs.{Input, ahead, expect}
+use Rattle.qml_grammar.specs.Lexemes.{Token, is_word}
+use Rattle.qml_grammar.specs.StatementGrammar.{IsWord, IsMaybeSimple, IsMaybeWhole, AreParts, parts, IsStmt, count}
 use Rattle.qml_grammar.specs.Statements.{Bodies, simple_before, test, for_body, for_step, for_test, for_statement}
-use Rattle.qml_grammar.specs.declared.mark.Mark.{Mark}
 use Rattle.qml_grammar.specs.declared.mark.Mark.TheVariants.{OpenParen, CloseParen, Semicolon}
 use Rattle.qml_grammar.specs.declared.word.Word.TheVariants as ww
-use Rattle.grammar_laws.specs.Laws.{Way}
 use Rattle.grammar_laws.proofs.Local.{followed}
 use Rattle.grammar_laws.proofs.Tools.{ahead_some}
-use Rattle.statement_laws.specs.Laws.{Covers}
 use Rattle.statement_laws.proofs.SoundParts.{simple_before_covers, test_covers}
-use Rattle.front_laws.proofs.Going.{HaltsOn, Halts, halts_as, halts_map, halts_behind, halts_then, halts_token, halts_expect, made_err, Completes, Fills, fills, the_mark, mark_is}
+use Rattle.front_laws.proofs.Going.{HaltsOn, Halts, halts_as, halts_behind, halts_then, halts_token, halts_expect, made_err, Fills, fills, the_mark, mark_is}
 use Rattle.front_laws.proofs.Moved.{semicolon_stops, close_stops, calm_maybe_simple, calm_maybe_whole}
-use Rattle.front_laws.proofs.NestedFronts.{IsStmtFrontFor, IsInnerFront, HaltsInside, head_goes_on, inside_goes_on}
-use Rattle.front_laws.proofs.PartFronts.{Brace, IsMaybeSimpleFront, simple_before_halts, IsMaybeWholeFront, test_halts}
+use Rattle.front_laws.proofs.NestedFronts.{IsStmtFrontFor, HaltsInside, head_goes_on, inside_goes_on}
+use Rattle.front_laws.proofs.PartFronts.{Brace, IsMaybeSimpleFront, simple_before_halts, IsMaybeWholeFront, test_halts, semicolon_is_calm, close_is_calm}
 
 -- The parts in parentheses
 
@@ -35,12 +31,6 @@ AreTheParts d most ts p = AreParts most (suc d) ts p.0 p.1 p.2
 -- the tokens and others spell the parts
 abbrev IsPartsFront : ℕ → List Token → Type 0
 IsPartsFront d = Fills (AreTheParts d)
-
-semicolon_is_calm : goes_on (Some (the_mark Semicolon)) ≡ false
-semicolon_is_calm = semicolon_stops (Some (the_mark Semicolon)) (mark_is Semicolon)
-
-close_is_calm : goes_on (Some (the_mark CloseParen)) ≡ false
-close_is_calm = close_stops (Some (the_mark CloseParen)) (mark_is CloseParen)
 
 abbrev made_for : Parts → Stmt → Stmt
 made_for p z = For p.0 p.1 p.2 z

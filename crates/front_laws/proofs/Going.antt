@@ -1,5 +1,5 @@
 -- Readings that fail, where the tokens before the fault can go on.
-use Rattle.std.proofs.Common.{◌≡◌, ℕ, zero, suc, ◌+◌, ◌≤◌, ◌⊎◌, inl, inr, Bool, true, false, List, [], ◌∷◌, ◌++◌, length, Option, Some, None, Result, Ok, Err, pos, refl, sym, ap, subst, ◌∙◌, arith, append_assoc}
+use Rattle.std.proofs.Common.{◌≡◌, ℕ, zero, suc, ◌+◌, ◌≤◌, inl, inr, Bool, true, List, [], ◌∷◌, ◌++◌, length, Option, Some, Result, Ok, Err, refl, sym, subst, append_assoc}
 use Rattle.std.proofs.lemmas.List.{append-nil}
 use Rattle.qml_ast.specs.declared.fault.DocFault.{DocFault}
 use Rattle.qml_grammar.specs.Ends.{since, may_end, end_behind, ended}
@@ -13,7 +13,7 @@ use Rattle.grammar_laws.specs.Faults.{IsFaultAt}
 use Rattle.grammar_laws.specs.Laws.{Way}
 use Rattle.grammar_laws.proofs.Local.{followed, before, onward, bind_err}
 use Rattle.grammar_laws.proofs.Tools.{way_none, way_then, way_token, if_ok, expected, named}
-use Rattle.grammar_laws.proofs.Viable.{AtOnce, refused_once, name_once, now, later, stuck_on}
+use Rattle.grammar_laws.proofs.Viable.{refused_once, name_once, now, later, stuck_on}
 use Rattle.front_laws.specs.Fronts.{FaultsBehind}
 
 -- Where a reading fails

@@ -1,14 +1,14 @@
 -- What is spelled with 200 nodes at most and so many levels is spelled with more nodes and one level more, and
 -- before a `}` in place of what followed it.
-use Rattle.std.proofs.Common.{◌≡◌, ℕ, zero, suc, ◌≤◌, Bool, true, false, List, [], ◌∷◌, ◌++◌, Option, Some, None, refl, sym, ap, subst, ◌∙◌, arith}
+use Rattle.std.proofs.Common.{◌≡◌, ℕ, zero, suc, ◌≤◌, Bool, true, false, List, [], ◌∷◌, Option, Some, None, refl, sym, ap, subst, ◌∙◌, arith}
 use Rattle.qml_ast.specs.declared.expr.Expr.{Expr}
 use Rattle.qml_ast.specs.declared.span.Span.{Span}
 use Rattle.qml_ast.specs.declared.stmt.Stmt.{Stmt}
 use Rattle.qml_grammar.specs.Ends.{may_end}
-use Rattle.qml_grammar.specs.ExpressionGrammar.{IsMark, IsPrimary, literal, name, parens, IsPostfix, primary, member, call_none, call, AreArguments, one_argument, more_arguments, IsUnary, operated, postfix, IsProduct, unary, times, IsSum, product, plus, IsOrder, sum, compare, IsEquality, order, equal, IsConjunction, equality, both, IsDisjunction, conjunction, either, IsExpr, disjunction, conditional}
+use Rattle.qml_grammar.specs.ExpressionGrammar.{IsPrimary, literal, name, parens, IsPostfix, primary, member, call_none, call, AreArguments, one_argument, more_arguments, IsUnary, operated, postfix, IsProduct, unary, times, IsSum, product, plus, IsOrder, sum, compare, IsEquality, order, equal, IsConjunction, equality, both, IsDisjunction, conjunction, either, IsExpr, disjunction, conditional}
 use Rattle.qml_grammar.specs.Lexemes.{Lexeme, mark, Token, is_mark, is_mark_lexeme, is_word}
 use Rattle.qml_grammar.specs.Marks.{same_mark, mark_number}
-use Rattle.qml_grammar.specs.StatementGrammar.{follow, goes_on, changes_on, IsEnd, semicolon, nothing, IsWhole, IsTarget, IsChange, assign, step, IsShort, local, local_set, change, act, leave, leave_with, IsSimple, IsMaybeSimple, IsMaybeWhole, IsCondition, parens as in_parens, AreParts, parts, IsStmt, short, block, empty, when, when_else, loop, count, IsBlock, braces, AreStmts}
+use Rattle.qml_grammar.specs.StatementGrammar.{follow, goes_on, changes_on, IsEnd, semicolon, nothing, IsWhole, IsChange, assign, step, IsShort, local, local_set, change, act, leave, leave_with, IsSimple, IsMaybeSimple, IsMaybeWhole, IsCondition, parens as in_parens, AreParts, parts, IsStmt, short, block, empty, when, when_else, loop, count, IsBlock, braces, AreStmts}
 use Rattle.qml_grammar.specs.declared.mark.Mark.{Mark}
 use Rattle.qml_grammar.specs.declared.mark.Mark.TheVariants.{CloseBrace, CloseParen, Semicolon, Equal}
 use Rattle.qml_grammar.specs.declared.word.Word.TheVariants as ww

@@ -1,16 +1,15 @@
 -- Statements with a head and a statement inside, `if` and `while`: what stands before a fault can go on.
-use Rattle.std.proofs.Common.{◌≡◌, ℕ, suc, ◌≤◌, inl, inr, true, false, List, [], ◌∷◌, ◌++◌, Option, Some, None, Ok, Err, refl, sym, ap, subst, ◌∙◌, arith, append_assoc}
+use Rattle.std.proofs.Common.{◌≡◌, ℕ, suc, ◌≤◌, inl, inr, true, List, [], ◌∷◌, ◌++◌, Option, Some, None, Err, refl, sym, ap, subst, arith, append_assoc}
 use Rattle.qml_ast.specs.declared.expr.Expr.{Expr}
 use Rattle.qml_ast.specs.declared.fault.DocFault.{DocFault}
 use Rattle.qml_ast.specs.declared.stmt.Stmt.{Stmt}
 use Rattle.qml_ast.specs.declared.stmt.Stmt.TheVariants.{Empty, If, While}
-use Rattle.qml_grammar.specs.Inputs.{Input, Parser, ahead, after}
+use Rattle.qml_grammar.specs.Inputs.{Input, ahead}
 use Rattle.qml_grammar.specs.Lexemes.{Token, head, is_mark, is_word}
 use Rattle.qml_grammar.specs.StatementGrammar.{IsWord, IsCondition, IsStmt, empty, when, when_else, loop, IsBlock, braces, AreStmts}
 use Rattle.qml_grammar.specs.Statements.{Bodies, condition, otherwise, choice, while_statement}
 use Rattle.qml_grammar.specs.declared.mark.Mark.TheVariants.{OpenBrace, CloseBrace, Semicolon}
 use Rattle.qml_grammar.specs.declared.word.Word.TheVariants as ww
-use Rattle.grammar_laws.proofs.Local.{followed}
 use Rattle.grammar_laws.proofs.Tools.{if_ok, ahead_some}
 use Rattle.statement_laws.proofs.Sound.{Deeper, SoundInside}
 use Rattle.statement_laws.proofs.SoundParts.{condition_covers}

@@ -1,19 +1,16 @@
 -- Statements with an end, and the parts of `if`, `while` and `for`: what stands before a fault can go on.
-use Rattle.std.proofs.Common.{◌≡◌, ℕ, suc, ◌≤◌, inl, inr, Bool, true, false, List, [], ◌∷◌, ◌++◌, Option, Some, None, Ok, Err, refl, sym, ap, ◌∙◌, arith, append_assoc}
-use Rattle.std.proofs.lemmas.List.{append-nil}
+use Rattle.std.proofs.Common.{◌≡◌, ℕ, suc, inl, inr, true, false, List, [], ◌∷◌, ◌++◌, Option, Some, None, Err, refl, sym, ap, ◌∙◌, arith, append_assoc}
 use Rattle.qml_ast.specs.declared.expr.Expr.{Expr}
-use Rattle.qml_ast.specs.declared.expr.Expr.TheVariants.{Name}
 use Rattle.qml_ast.specs.declared.fault.DocFault.{DocFault}
-use Rattle.qml_ast.specs.declared.stmt.AssignOp.TheVariants.{Set}
 use Rattle.qml_ast.specs.declared.stmt.LocalWord.{LocalWord}
 use Rattle.qml_ast.specs.declared.stmt.LocalWord.TheVariants.{Var as AsVar}
 use Rattle.qml_ast.specs.declared.stmt.Stmt.{Stmt}
 use Rattle.qml_ast.specs.declared.stmt.Stmt.TheVariants.{Local, Do, Return}
 use Rattle.qml_grammar.specs.Expressions.{whole}
 use Rattle.qml_grammar.specs.ExpressionGrammar.{IsMark}
-use Rattle.qml_grammar.specs.Inputs.{Input, ahead, after, place, refused, pure, expect}
+use Rattle.qml_grammar.specs.Inputs.{Input, ahead, after, refused, pure, expect}
 use Rattle.qml_grammar.specs.Lexemes.{Token, head, last_of, is_mark, is_word, name_of, local_word_of, same_line}
-use Rattle.qml_grammar.specs.StatementGrammar.{IsWord, goes_on, IsWhole, IsTarget, IsShort, local as a_local, local_set, change, act as an_act, leave as a_leave, leave_with, IsSimple, IsMaybeSimple, IsMaybeWhole, IsCondition, parens}
+use Rattle.qml_grammar.specs.StatementGrammar.{IsWord, goes_on, IsWhole, IsShort, local as a_local, local_set, change, act as an_act, leave as a_leave, leave_with, IsSimple, IsMaybeSimple, IsMaybeWhole, IsCondition, parens}
 use Rattle.qml_grammar.specs.Statements.{is_target, target, change_or, initial, local, gives_value, returned, leave, acted, act, simple_local, simple_change, simple, simple_before, test, condition}
 use Rattle.qml_grammar.specs.declared.mark.Mark.{Mark}
 use Rattle.qml_grammar.specs.declared.mark.Mark.TheVariants.{CloseBrace, OpenParen, CloseParen, Semicolon, Equal}
@@ -27,7 +24,7 @@ use Rattle.statement_laws.proofs.Targets.{and_both, expr_target, target_covers}
 use Rattle.statement_laws.proofs.Wholes.{whole_covers}
 use Rattle.front_laws.proofs.ChangeFronts.{IsChangeFront, target_stays, target_change, target_halts, change_or_halts}
 use Rattle.front_laws.proofs.Going.{HaltsOn, Halts, halts_here, halts_as, halts_map, halts_by, halts_behind, halts_then, halts_token, halts_expect, halts_name, expect_place, never_err, made_err, Completes, completes, Fills, fills, the_mark, one, some_name, mark_is}
-use Rattle.front_laws.proofs.Moved.{brace_stops, brace_changes_nothing, brace_no_equal, close_stops, calm_whole}
+use Rattle.front_laws.proofs.Moved.{brace_stops, brace_changes_nothing, brace_no_equal, semicolon_stops, close_stops, calm_whole}
 use Rattle.front_laws.proofs.WholeFronts.{Calm, IsWholeFront, one_value, one_whole, whole_halts}
 
 abbrev pub Brace : Option Token → Type 0
@@ -175,10 +172,15 @@ test_halts d i e h = elim (if_ok (is_mark Semicolon (ahead i)) _ _ _ h) [
   | inr a ↦ halts_as (λ us w. completes w.others w.most (Some w.value) w.enough refl (λ next c. IsMaybeWhole.some w.value refl (w.spelled next c))) (whole_halts d i e (made_err (whole d) (λ y. Some y) i e a.1))
 ]
 
--- Conditions
+-- Marks that end an expression
 
-close_is_calm : goes_on (Some (the_mark CloseParen)) ≡ false
+pub semicolon_is_calm : goes_on (Some (the_mark Semicolon)) ≡ false
+semicolon_is_calm = semicolon_stops (Some (the_mark Semicolon)) (mark_is Semicolon)
+
+pub close_is_calm : goes_on (Some (the_mark CloseParen)) ≡ false
 close_is_calm = close_stops (Some (the_mark CloseParen)) (mark_is CloseParen)
+
+-- Conditions
 
 abbrev pub IsConditionFront : ℕ → List Token → Type 0
 IsConditionFront d = Fills (λ most. IsCondition most (suc d))

@@ -1,5 +1,5 @@
 -- Statements and blocks: what stands before a fault can go on, level by level.
-use Rattle.std.proofs.Common.{◌≡◌, ℕ, zero, suc, ◌⊎◌, inl, inr, true, false, List, [], ◌∷◌, ◌++◌, Option, Some, None, Ok, Err, refl, sym, ap, subst, ◌∙◌, arith, append_assoc}
+use Rattle.std.proofs.Common.{◌≡◌, ℕ, zero, suc, ◌⊎◌, inl, inr, true, List, [], ◌∷◌, ◌++◌, Option, Some, Ok, Err, refl, sym, ap, subst, arith, append_assoc}
 use Rattle.std.proofs.lemmas.List.{append-nil}
 use Rattle.qml_ast.specs.declared.fault.DocFault.{DocFault}
 use Rattle.qml_ast.specs.declared.stmt.Stmt.{Stmt}
@@ -14,7 +14,7 @@ use Rattle.qml_grammar.specs.declared.mark.Mark.TheVariants.{OpenBrace, CloseBra
 use Rattle.qml_grammar.specs.declared.word.Word.TheVariants as ww
 use Rattle.grammar_laws.specs.Faults.{IsFaultAt}
 use Rattle.grammar_laws.specs.Laws.{Way}
-use Rattle.grammar_laws.proofs.Local.{followed, chosen, not_chosen, chosen_in}
+use Rattle.grammar_laws.proofs.Local.{chosen, not_chosen, chosen_in}
 use Rattle.grammar_laws.proofs.Tools.{bind_ok, if_ok, ahead_some, same_input}
 use Rattle.grammar_laws.proofs.Viable.{operand_refused_once, too_deep_once}
 use Rattle.statement_laws.proofs.Loops.{Single, while_lists}
@@ -23,7 +23,7 @@ use Rattle.statement_laws.proofs.SoundParts.{local_covers, leave_covers, act_cov
 use Rattle.statement_laws.proofs.Ways.{SoundAt}
 use Rattle.front_laws.specs.Fronts.{FaultsBehind, IsStmtFront}
 use Rattle.front_laws.proofs.ForFronts.{for_halts}
-use Rattle.front_laws.proofs.Going.{HaltsOn, Halts, halts_faults, halts_here, halts_as, halts_map, halts_by, halts_behind, halts_then, halts_token, expect_place, never_err, made_err, halts_ended, halts_while, Completes, completes, Fills, fills, the_mark, mark_is}
+use Rattle.front_laws.proofs.Going.{Halts, halts_faults, halts_here, halts_as, halts_map, halts_by, halts_behind, halts_then, halts_token, expect_place, never_err, made_err, halts_ended, halts_while, Completes, completes, fills, the_mark, mark_is}
 use Rattle.front_laws.proofs.Moved.{same, brace, brace_ends, brace_no_semicolon, moved_short, moved_stmt, moved_stmts}
 use Rattle.front_laws.proofs.PartFronts.{Brace, IsShortFront, local_halts, leave_halts, act_halts}
 use Rattle.front_laws.proofs.NestedFronts.{HaltsInside, some_inner, some_block, while_halts, choice_halts}

@@ -1,29 +1,18 @@
 -- Outermost expressions, targets and what changes them: what stands before a fault can go on.
-use Rattle.std.proofs.Common.{◌≡◌, ℕ, suc, ◌+◌, ◌≤◌, ◌⊎◌, inl, inr, Bool, true, false, if◌then◌else◌, List, [], ◌∷◌, ◌++◌, Option, Some, None, Result, Ok, Err, pos, refl, sym, ap, subst, ◌∙◌, arith, append_assoc}
+use Rattle.std.proofs.Common.{◌≡◌, ℕ, suc, ◌+◌, ◌≤◌, false, List, [], ◌∷◌, Option, Err, pos, refl, arith}
 use Rattle.qml_ast.specs.declared.expr.Expr.{Expr}
-use Rattle.qml_ast.specs.declared.expr.Expr.TheVariants.{Lit, Name, Member}
+use Rattle.qml_ast.specs.declared.expr.Expr.TheVariants.{Lit}
 use Rattle.qml_ast.specs.declared.fault.DocFault.{DocFault}
-use Rattle.qml_ast.specs.declared.stmt.AssignOp.{AssignOp}
-use Rattle.qml_ast.specs.declared.stmt.AssignOp.TheVariants.{Set}
-use Rattle.qml_ast.specs.declared.stmt.Stmt.{Stmt}
-use Rattle.qml_ast.specs.declared.stmt.Stmt.TheVariants.{Assign}
 use Rattle.qml_ast.specs.declared.value.Value.TheVariants.{Int}
-use Rattle.qml_grammar.specs.ExpressionGrammar.{IsMark, IsOperator, IsExpr, literal, primary, postfix, unary, product, sum, order, equality, conjunction, disjunction}
-use Rattle.qml_grammar.specs.Expressions.{member, whole}
-use Rattle.qml_grammar.specs.Inputs.{Input, Parser, ahead, after, place, take_node, any_name, refusal}
-use Rattle.qml_grammar.specs.Lexemes.{Token, is_mark, same_line, looked_up, assign_operator, step_operator, last_of, name_of, operand_name_of}
-use Rattle.qml_grammar.specs.StatementGrammar.{goes_on, IsWhole, IsTarget, name, member as more_target, IsChange, assign}
-use Rattle.qml_grammar.specs.Statements.{target_name, target_in, target, assigned, stepped, step_or, change_or}
-use Rattle.qml_grammar.specs.declared.mark.Mark.TheVariants.{Dot, Equal}
-use Rattle.grammar_laws.specs.Faults.{IsFaultAt, CanGoOn}
-use Rattle.grammar_laws.specs.Laws.{Way}
+use Rattle.qml_grammar.specs.ExpressionGrammar.{IsExpr, literal, primary, postfix, unary, product, sum, order, equality, conjunction, disjunction}
+use Rattle.qml_grammar.specs.Expressions.{whole}
+use Rattle.qml_grammar.specs.Inputs.{Input}
+use Rattle.qml_grammar.specs.Lexemes.{Token}
+use Rattle.qml_grammar.specs.StatementGrammar.{goes_on, IsWhole}
+use Rattle.grammar_laws.specs.Faults.{CanGoOn}
 use Rattle.grammar_laws.proofs.Failing.{whole_faults}
-use Rattle.grammar_laws.proofs.Local.{followed, before, onward, bind_err, chosen, not_chosen, chosen_in}
-use Rattle.grammar_laws.proofs.Reading.{full}
-use Rattle.grammar_laws.proofs.Tools.{bind_ok, ahead_some, ahead_gives, named, way_node, way_then, way_token, if_ok, same_input}
-use Rattle.grammar_laws.proofs.Viable.{node_once, name_once, refused_once}
 use Rattle.front_laws.specs.Fronts.{FaultsBehind}
-use Rattle.front_laws.proofs.Going.{HaltsOn, Halts, halts_faults, halts_here, halts_as, halts_behind, halts_token, halts_name, never_err, made_err, halts_while, Completes, completes, the_mark, one, some_name, mark_is}
+use Rattle.front_laws.proofs.Going.{Halts, halts_faults, Completes, completes, one}
 use Rattle.front_laws.proofs.Moved.{moved_expr}
 
 -- Expressions

@@ -1,7 +1,6 @@
 -- What it means that tokens can go on: with others behind them the productions spell something, where an
 -- expression may have as many nodes as it takes, and one level more may be opened.
-use Rattle.std.specs.Prelude.{◌≡◌, ℕ, suc, true, List, [], ◌∷◌, ◌++◌, ◌⊎◌, Option, Some}
-use Rattle.qml_ast.specs.declared.decl.Decl.{Decl}
+use Rattle.std.specs.Prelude.{◌≡◌, ℕ, suc, true, List, [], ◌∷◌, ◌++◌, ◌⊎◌, Option}
 use Rattle.qml_ast.specs.declared.document.Document.{Document}
 use Rattle.qml_ast.specs.declared.fault.DocFault.{DocFault}
 use Rattle.qml_ast.specs.declared.span.Span.{Span}
