@@ -48,7 +48,7 @@ no_parts (suc k) b i j h = elim (went_on (is_mark Dot) module_part k b i true j 
   | a_step z l t s g ↦ absurd (let e = stays_false k z l true j (part_is_no_name b i z l s) g in cc)
 ]
 
-module_is : (i j : Input) → module_name i ≡ Ok (true, j) → Named (codes "QtQuick") i j
+pub module_is : (i j : Input) → module_name i ≡ Ok (true, j) → Named (codes "QtQuick") i j
 unfolding module_name module_rest while_next
 module_is i j h =
     let a = bind_ok (any_name i) _ _ h in
@@ -80,11 +80,11 @@ minor_is (decimal major minor) m h = minor_from (major == 2 && nat_le minor 15) 
 minor_is _ m h = absurd cc
 
 -- a lawful version that was taken
-record Versioned (m : ℕ) (i j : Input) : Type 0 where
-  token : Token
-  way : Way i j 0 (token ∷ [])
-  is : token.lexeme ≡ decimal 2 m
-  few : m ≤ 15
+pub record Versioned (m : ℕ) (i j : Input) : Type 0 where
+  pub token : Token
+  pub way : Way i j 0 (token ∷ [])
+  pub is : token.lexeme ≡ decimal 2 m
+  pub few : m ≤ 15
 
 version_from : (o : Option ℕ) (i j : Input) (m : ℕ) (b : Bool) (f g : DocFault) → minor_of (ahead i) ≡ o → ◌≡◌ {A = Result (ℕ × Input) DocFault} (elim o [ Some minor ↦ Ok (minor, after i) | None ↦ (if b then Err f else Err g) ]) (Ok (m, j)) → Versioned m i j
 version_from None i j m true f g e h = absurd cc
@@ -95,7 +95,7 @@ version_from (Some n) i j m b f g e h =
     let p = minor_is t.token.lexeme m t.is in
     record { token = t.token; way = subst (λ k. Way i k 0 (t.token ∷ [])) (same_input n m (after i) j h) (way_token t.token t.rest); is = p.0; few = p.1 }
 
-version_is : (at : Span) (i j : Input) (m : ℕ) → version at i ≡ Ok (m, j) → Versioned m i j
+pub version_is : (at : Span) (i j : Input) (m : ℕ) → version at i ≡ Ok (m, j) → Versioned m i j
 unfolding version
 version_is at i j m h = version_from (minor_of (ahead i)) i j m _ _ _ refl h
 
@@ -106,7 +106,7 @@ version_goes at v m j is few = found _ _ (ap minor_of_lexeme is ∙ rw (minor_of
 -- Imports without their end
 
 -- "import" Name Decimal, which is QtQuick 2.0 to 2.15
-data IsBare : List Token → Option Token → Import → Type 0 where
+pub data IsBare : List Token → Option Token → Import → Type 0 where
   bare : {ts : List Token} {next : Option Token} {x : Import} (t u v : Token) (minor : ℕ) → ts ≡ t ∷ u ∷ v ∷ [] → x ≡ record { «module» = codes "QtQuick"; major = 2; minor = minor; span = u.span } → IsWord t ww.Import → IsName u (codes "QtQuick") → v.lexeme ≡ decimal 2 minor → minor ≤ 15 → is_word ww.As next ≡ false → IsBare ts next x
 
 unnamed_is : (i : Input) (u : Unit {0}) (j : Input) → unnamed i ≡ Ok (u, j) → (is_word ww.As (ahead i) ≡ false) × (i ≡ j)
@@ -129,7 +129,7 @@ version_covers t u i k x j word_is name_is w h =
       spelled = bare t u v.token a.value refl refl word_is name_is v.is v.few (ap (λ (l : Input). is_word ww.As (ahead l)) (sym n.1) ∙ n.0);
     }) b.onward
 
-bare_covers : (i : Input) → is_word ww.Import (ahead i) ≡ true → (x : Import) (j : Input) → import_in i ≡ Ok (x, j) → Covers IsBare i j x
+pub bare_covers : (i : Input) → is_word ww.Import (ahead i) ≡ true → (x : Import) (j : Input) → import_in i ≡ Ok (x, j) → Covers IsBare i j x
 unfolding import_in import_module
 bare_covers i t x j h = elim (if_ok (is_text (ahead (after i))) _ _ _ h) [
   | inl a ↦ absurd (let e = a.1 in cc)
@@ -168,7 +168,7 @@ import_of : {ts : List Token} {next : Option Token} {x : Import} (es : List Toke
 import_of {next = next} es (bare t u v m ts_is x_is word_is name_is is few free) e =
     an_import t u v es m (ap (λ us. us ++ es) ts_is) x_is word_is name_is is few free (subst (λ us. IsEnd (last_of us) es next) ts_is e)
 
-import_covers : (i : Input) → is_word ww.Import (ahead i) ≡ true → (x : Import) (j : Input) → ended import_in i ≡ Ok (x, j) → Covers IsImport i j x
+pub import_covers : (i : Input) → is_word ww.Import (ahead i) ≡ true → (x : Import) (j : Input) → ended import_in i ≡ Ok (x, j) → Covers IsImport i j x
 import_covers i t x j h =
     let c = ended_covers import_in IsBare i (bare_covers i t) x j h in
     let s = c.spelled in

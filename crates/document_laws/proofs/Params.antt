@@ -45,7 +45,7 @@ kind_goes k n t u us j is next = if_false _ _ (no_dotted_kind t u (us ++ j.rest)
 signal_at : (k n : List ℕ) {a b c d : Span} → a ≡ c → b ≡ d → ◌≡◌ {A = SignalParam} (record { kind = k; name = n; kind_span = a; name_span = b }) (record { kind = k; name = n; kind_span = c; name_span = d })
 signal_at k n e f = λ l. record { kind = k; name = n; kind_span = e l; name_span = f l }
 
-signal_param_covers : (i : Input) (x : SignalParam) (j : Input) → signal_param i ≡ Ok (x, j) → Covers (Anyhow IsSignalParam) i j x
+pub signal_param_covers : (i : Input) (x : SignalParam) (j : Input) → signal_param i ≡ Ok (x, j) → Covers (Anyhow IsSignalParam) i j x
 unfolding signal_param
 signal_param_covers i x j h =
     let a = bind_ok (kind i) _ _ h in
@@ -122,10 +122,10 @@ signal_params_go ts next xs j e (some_signal o us z ts_is open_is p close_is) = 
 -- Parameters of methods
 
 -- Name
-data IsMethodParam : List Token → MethodParam → Type 0 where
+pub data IsMethodParam : List Token → MethodParam → Type 0 where
   method : {ts : List Token} {x : MethodParam} (t : Token) (n : List ℕ) → ts ≡ t ∷ [] → x ≡ record { name = n; span = t.span } → IsName t n → IsMethodParam ts x
 
-method_param_covers : (i : Input) (x : MethodParam) (j : Input) → method_param i ≡ Ok (x, j) → Covers (Anyhow IsMethodParam) i j x
+pub method_param_covers : (i : Input) (x : MethodParam) (j : Input) → method_param i ≡ Ok (x, j) → Covers (Anyhow IsMethodParam) i j x
 unfolding method_param
 method_param_covers i x j h =
     let a = bind_ok (any_name i) _ _ h in

@@ -162,7 +162,7 @@ module _ (d : ℕ) (v : Under) (inside : SoundUnder d v) where
 
   -- Members of words
 
-  id_covers : (i : Input) → is_word ww.Id (ahead i) ≡ true → (x : Member) (j : Input) → id_member i ≡ Ok (x, j) → Covers (IsShortMember 200 d) i j x
+  pub id_covers : (i : Input) → is_word ww.Id (ahead i) ≡ true → (x : Member) (j : Input) → id_member i ≡ Ok (x, j) → Covers (IsShortMember 200 d) i j x
   unfolding id_member
   id_covers i h x j r =
       let t = ahead_some (is_word ww.Id) refl i h in
@@ -233,7 +233,7 @@ module _ (d : ℕ) (v : Under) (inside : SoundUnder d v) where
         spelled = r.spelled;
       }
 
-  property_covers : (i : Input) → is_word ww.Property (ahead i) ≡ true → (x : Member) (j : Input) → property d v false i ≡ Ok (x, j) → Covers (IsShortMember 200 d) i j x
+  pub property_covers : (i : Input) → is_word ww.Property (ahead i) ≡ true → (x : Member) (j : Input) → property d v false i ≡ Ok (x, j) → Covers (IsShortMember 200 d) i j x
   unfolding property
   property_covers i h x j r =
       let t = ahead_some (is_word ww.Property) refl i h in
@@ -244,7 +244,7 @@ module _ (d : ℕ) (v : Under) (inside : SoundUnder d v) where
         spelled = a_property t.token p.kind p.name p.text p.kind_text p.name_text p.value p.at refl p.is t.is p.kind_is p.no_alias p.name_is p.spelled;
       }
 
-  fixed_covers : (i : Input) → is_word ww.ReadOnly (ahead i) ≡ true → (x : Member) (j : Input) → fixed_property d v i ≡ Ok (x, j) → Covers (IsShortMember 200 d) i j x
+  pub fixed_covers : (i : Input) → is_word ww.ReadOnly (ahead i) ≡ true → (x : Member) (j : Input) → fixed_property d v i ≡ Ok (x, j) → Covers (IsShortMember 200 d) i j x
   unfolding fixed_property property
   fixed_covers i h x j r =
       let t = ahead_some (is_word ww.ReadOnly) refl i h in
@@ -260,7 +260,7 @@ module _ (d : ℕ) (v : Under) (inside : SoundUnder d v) where
         | inr a ↦ absurd (let e = a.1 in cc)
       ]
 
-  signal_covers : (i : Input) → is_word ww.Signal (ahead i) ≡ true → (x : Member) (j : Input) → signal_member i ≡ Ok (x, j) → Covers (IsShortMember 200 d) i j x
+  pub signal_covers : (i : Input) → is_word ww.Signal (ahead i) ≡ true → (x : Member) (j : Input) → signal_member i ≡ Ok (x, j) → Covers (IsShortMember 200 d) i j x
   unfolding signal_member
   signal_covers i h x j r =
       let t = ahead_some (is_word ww.Signal) refl i h in
@@ -299,7 +299,7 @@ module _ (d : ℕ) (v : Under) (inside : SoundUnder d v) where
         spelled = an_initialised q.token q.others o c.text p y.init y.span refl (ap (λ s. mm.Init p y.init y.span s) (placed q.way)) q.spelled plain colon c.spelled;
       }) a.onward
 
-  path_covers : (i : Input) → is_own_word (ahead i) ≡ false → (x : Member) (j : Input) → path_member d v i ≡ Ok (x, j) → Covers (IsShortMember 200 d) i j x
+  pub path_covers : (i : Input) → is_own_word (ahead i) ≡ false → (x : Member) (j : Input) → path_member d v i ≡ Ok (x, j) → Covers (IsShortMember 200 d) i j x
   unfolding path_member behind_path
   path_covers i own x j h =
       let a = bind_ok (path i) _ _ h in
@@ -423,7 +423,7 @@ module _ (d : ℕ) (v : Under) (inside : SoundUnder d v) where
 
   -- Entries of groups
 
-  entry_covers : (n : List ℕ) (i : Input) (x : Member) (j : Input) → entry d v n i ≡ Ok (x, j) → Covers (IsEntry 200 d n) i j x
+  pub entry_covers : (n : List ℕ) (i : Input) (x : Member) (j : Input) → entry d v n i ≡ Ok (x, j) → Covers (IsEntry 200 d n) i j x
   unfolding entry
   entry_covers n i x j h =
       let a = bind_ok (entry_name i) _ _ h in
@@ -440,7 +440,7 @@ module _ (d : ℕ) (v : Under) (inside : SoundUnder d v) where
         spelled = an_entry t.token o.token c.text a.value y.init y.span refl (ap (λ s. mm.Init (record { first = n; second = Some a.value }) y.init y.span s) (placed t.way)) t.is m.1 o.is c.spelled;
       }) e.onward
 
-  entry_added : (n : List ℕ) (xs : List Member) (i : Input) (ys : List Member) (j : Input) → goes_on_inside (ahead i) ≡ true → one_entry d v n xs i ≡ Ok (ys, j) → Added (AnEntry d n) xs i ys j
+  pub entry_added : (n : List ℕ) (xs : List Member) (i : Input) (ys : List Member) (j : Input) → goes_on_inside (ahead i) ≡ true → one_entry d v n xs i ≡ Ok (ys, j) → Added (AnEntry d n) xs i ys j
   unfolding one_entry
   entry_added n xs i ys j t h =
       let a = bind_ok (ended (entry d v n) i) _ _ h in
@@ -457,7 +457,7 @@ module _ (d : ℕ) (v : Under) (inside : SoundUnder d v) where
   unfolding entries
   entries_closed n = until_brace_closed (AnEntry d n) (one_entry d v n) (entry_begins d n) (entry_added n)
 
-  member_added : (xs : List Member) (i : Input) (ys : List Member) (j : Input) → goes_on_inside (ahead i) ≡ true → one_member d v xs i ≡ Ok (ys, j) → Added (IsMember 200 d) xs i ys j
+  pub member_added : (xs : List Member) (i : Input) (ys : List Member) (j : Input) → goes_on_inside (ahead i) ≡ true → one_member d v xs i ≡ Ok (ys, j) → Added (IsMember 200 d) xs i ys j
   unfolding one_member
   member_added xs i ys j t h =
       let a = bind_ok (member_in d v i) _ _ h in
