@@ -31,11 +31,8 @@ pub record HaltsOn (V : List Token → Type 0) (pre : List Token) (i : Input) (e
 abbrev pub Halts : (List Token → Type 0) → Input → DocFault → Type 0
 Halts V i e = HaltsOn V [] i e
 
-pub halts_faults : {A : Type 0} {V : List Token → Type 0} {i : Input} {e : DocFault} (p : Parser A) → Halts V i e → FaultsBehind V p i e
-halts_faults p h = record { nodes = h.nodes; text = h.text; at = h.at; way = h.way; place = h.place; front = h.front }
-
-pub faults_halts : {A : Type 0} {V : List Token → Type 0} {p : Parser A} {i : Input} {e : DocFault} → FaultsBehind V p i e → Halts V i e
-faults_halts h = record { nodes = h.nodes; text = h.text; at = h.at; way = h.way; place = h.place; front = h.front }
+pub halts_faults : {V : List Token → Type 0} {i : Input} {e : DocFault} → Halts V i e → FaultsBehind V i e
+halts_faults h = record { nodes = h.nodes; text = h.text; at = h.at; way = h.way; place = h.place; front = h.front }
 
 -- the fault stands at the next token
 pub halts_here : {V : List Token → Type 0} {pre : List Token} {i : Input} {e : DocFault} → IsFaultAt e (place i) → V pre → HaltsOn V pre i e

@@ -34,11 +34,11 @@ use Rattle.document_laws.proofs.Steps.{first_is}
 use Rattle.document_laws.proofs.Tokens.{own_not, upper_not_own}
 use Rattle.front_laws.proofs.DocumentSteps.{refused_place, unsupported_place, never, behind_mark, behind_name, Onward, goes_with}
 use Rattle.front_laws.proofs.DocumentTokens.{lower_name, a_lower, an_upper, in_braces, lower_is, lower_no_handler, lower_not_own}
-use Rattle.front_laws.proofs.Going.{HaltsOn, Halts, halts_here, halts_as, halts_behind, faults_halts, made_err, halts_ended, completes, the_mark, mark_is}
+use Rattle.front_laws.proofs.Going.{HaltsOn, Halts, halts_here, halts_as, halts_behind, made_err, halts_ended, completes, the_mark, mark_is}
 use Rattle.front_laws.proofs.PartFronts.{Brace}
 use Rattle.front_laws.proofs.Moved.{Becomes, brace, brace_ends, brace_no_semicolon}
 use Rattle.front_laws.proofs.MovedDocuments.{moved_short}
-use Rattle.front_laws.proofs.StatementFronts.{IsStmtFrontFor, statement_fails}
+use Rattle.front_laws.proofs.StatementFronts.{IsStmtFrontFor, any_statement_halts}
 use Rattle.front_laws.proofs.ValueFronts.{IsValueFront, IsObjectFront, IsGroupFront, FrontsUnder, empty_body, empty_group, named_object, missing_object, some_object, missing_value, object_halts, value_halts}
 use Rattle.front_laws.proofs.WordFronts.{IsShortFront, IsMemberFront, id_halts, property_halts, fixed_halts, signal_halts, method_halts}
 
@@ -157,7 +157,7 @@ module _ (d : ℕ) (v : Under) (sound : SoundUnder d v) (inside : FrontsUnder d 
   behind_path_halts : (t : Token) (us : List Token) (o : Token) (p : Path) (i k : Input) (e : DocFault) → IsPath (t ∷ us) p → IsMark o Colon → behind_path d v p (place i) k ≡ Err e → HaltsOn (IsShortFront d) ((t ∷ us) ++ o ∷ []) k e
   unfolding behind_path handled initialised
   behind_path_halts t us o p i k e path_is colon h = elim (if_ok (is_handler_path p) _ _ _ h) [
-    | inl a ↦ halts_as (handled_on d t us o p path_is colon a.0) (faults_halts (statement_fails d k e (made_err (statement d) _ k e a.1)))
+    | inl a ↦ halts_as (handled_on d t us o p path_is colon a.0) (any_statement_halts d k e (made_err (statement d) _ k e a.1))
     | inr a ↦ halts_as (initialised_on d t us o p path_is colon a.0) (value_halts d v inside k e (made_err (value_in d v) _ k e a.1))
   ]
 

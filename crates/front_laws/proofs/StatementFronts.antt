@@ -28,7 +28,7 @@ use Rattle.front_laws.proofs.Moved.{same, brace, brace_ends, brace_no_semicolon,
 use Rattle.front_laws.proofs.PartFronts.{Brace, IsShortFront, local_halts, leave_halts, act_halts}
 use Rattle.front_laws.proofs.NestedFronts.{HaltsInside, some_inner, some_block, while_halts, choice_halts}
 pub use Rattle.front_laws.proofs.NestedFronts.{IsStmtFrontFor, IsBlockFront}
-pub use Rattle.front_laws.proofs.WholeFronts.{IsWholeFront, whole_fails, empty_whole}
+pub use Rattle.front_laws.proofs.WholeFronts.{IsWholeFront, whole_halts, empty_whole}
 
 -- Statements with an end
 
@@ -144,16 +144,13 @@ halts_inside (suc d) = record {
   block = λ i e t h. braces_halts d (bodies d) (sound d) (halts_inside d) i e t h;
 }
 
-all_statements_halt : (d : ℕ) (i : Input) (e : DocFault) → statement d i ≡ Err e → Halts (IsStmtFrontFor d) i e
+pub any_statement_halts : (d : ℕ) (i : Input) (e : DocFault) → statement d i ≡ Err e → Halts (IsStmtFrontFor d) i e
 unfolding statement
-all_statements_halt d i e h = statement_halts d (bodies d) (sound d) (halts_inside d) i e h
+any_statement_halts d i e h = statement_halts d (bodies d) (sound d) (halts_inside d) i e h
 
-pub statement_fails : (d : ℕ) (i : Input) (e : DocFault) → statement d i ≡ Err e → FaultsBehind (IsStmtFrontFor d) (statement d) i e
-statement_fails d i e h = halts_faults (statement d) (all_statements_halt d i e h)
-
-pub block_fails : (d : ℕ) (i : Input) (e : DocFault) → is_mark OpenBrace (ahead i) ≡ true → (bodies d).block i ≡ Err e → FaultsBehind (IsBlockFront d) ((bodies d).block) i e
-block_fails d i e t h = halts_faults ((bodies d).block) ((halts_inside d).block i e t h)
+pub any_block_halts : (d : ℕ) (i : Input) (e : DocFault) → is_mark OpenBrace (ahead i) ≡ true → (bodies d).block i ≡ Err e → Halts (IsBlockFront d) i e
+any_block_halts d i e t h = (halts_inside d).block i e t h
 
 -- as it is told
-pub statement_front : (d : ℕ) (i : Input) (e : DocFault) → statement d i ≡ Err e → FaultsBehind (IsStmtFront d) (statement d) i e
-statement_front d i e h = halts_faults (statement d) (halts_map (λ us w. record { others = w.others; most = w.most; value = w.value; spelled = w.spelled }) (all_statements_halt d i e h))
+pub statement_front : (d : ℕ) (i : Input) (e : DocFault) → statement d i ≡ Err e → FaultsBehind (IsStmtFront d) i e
+statement_front d i e h = halts_faults (halts_map (λ us w. record { others = w.others; most = w.most; value = w.value; spelled = w.spelled }) (any_statement_halts d i e h))

@@ -19,11 +19,11 @@ use Rattle.grammar_laws.proofs.Local.{chosen, not_chosen, chosen_in}
 use Rattle.grammar_laws.proofs.Tools.{if_ok, ahead_gives, way_token}
 use Rattle.front_laws.proofs.DocumentSteps.{refused_place, unsupported_place, Onward}
 use Rattle.front_laws.proofs.DocumentTokens.{upper_name, an_upper, in_braces, upper_is}
-use Rattle.front_laws.proofs.Going.{Halts, halts_here, halts_as, halts_behind, faults_halts, made_err, Fills, fills, the_mark, mark_is}
+use Rattle.front_laws.proofs.Going.{Halts, halts_here, halts_as, halts_behind, made_err, Fills, fills, the_mark, mark_is}
 use Rattle.front_laws.proofs.Moved.{brace_stops}
 use Rattle.front_laws.proofs.MovedDocuments.{brace_no_mark}
 use Rattle.front_laws.proofs.PartFronts.{Brace}
-use Rattle.front_laws.proofs.StatementFronts.{IsWholeFront, whole_fails, empty_whole}
+use Rattle.front_laws.proofs.StatementFronts.{IsWholeFront, whole_halts, empty_whole}
 
 -- What stands in braces
 
@@ -148,7 +148,7 @@ module _ (d : ℕ) (v : Under) (inside : FrontsUnder d v) where
 
   expr_value_halts : (i : Input) (e : DocFault) → expr_value d i ≡ Err e → Halts (IsValueFront d) i e
   unfolding expr_value
-  expr_value_halts i e h = halts_as (expr_on d) (faults_halts (whole_fails d i e (made_err (whole d) _ i e h)))
+  expr_value_halts i e h = halts_as (expr_on d) (whole_halts d i e (made_err (whole d) _ i e h))
 
   pub value_halts : (i : Input) (e : DocFault) → value_in d v i ≡ Err e → Halts (IsValueFront d) i e
   unfolding value_in

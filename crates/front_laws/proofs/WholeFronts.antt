@@ -11,8 +11,7 @@ use Rattle.qml_grammar.specs.Lexemes.{Token}
 use Rattle.qml_grammar.specs.StatementGrammar.{goes_on, IsWhole}
 use Rattle.grammar_laws.specs.Faults.{CanGoOn}
 use Rattle.grammar_laws.proofs.Failing.{whole_faults}
-use Rattle.front_laws.specs.Fronts.{FaultsBehind}
-use Rattle.front_laws.proofs.Going.{Halts, halts_faults, Completes, completes, one}
+use Rattle.front_laws.proofs.Going.{Halts, Completes, completes, one}
 use Rattle.front_laws.proofs.Moved.{moved_expr}
 
 -- Expressions
@@ -44,6 +43,3 @@ pub whole_halts : (d : ℕ) (i : Input) (e : DocFault) → whole d i ≡ Err e �
 whole_halts d i e h =
     let c = whole_faults d i e h in
     record { nodes = c.nodes; text = c.text; at = c.at; way = c.way; place = c.place; front = whole_goes_on d c.text c.before }
-
-pub whole_fails : (d : ℕ) (i : Input) (e : DocFault) → whole d i ≡ Err e → FaultsBehind (IsWholeFront d) (whole d) i e
-whole_fails d i e h = halts_faults (whole d) (whole_halts d i e h)

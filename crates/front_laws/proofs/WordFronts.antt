@@ -22,10 +22,10 @@ use Rattle.grammar_laws.proofs.Viable.{name_once}
 use Rattle.document_laws.proofs.Params.{method_params_cover}
 use Rattle.front_laws.proofs.DocumentSteps.{refused_place, never, behind_mark, behind_name, Onward, Becoming, goes_with}
 use Rattle.front_laws.proofs.DocumentTokens.{lower_name, a_lower, property_word, in_braces, property_is, lower_is, lower_no_alias}
-use Rattle.front_laws.proofs.Going.{HaltsOn, Halts, halts_here, halts_as, halts_behind, faults_halts, made_err, completes, fills, the_mark, mark_is}
+use Rattle.front_laws.proofs.Going.{HaltsOn, Halts, halts_here, halts_as, halts_behind, made_err, completes, fills, the_mark, mark_is}
 use Rattle.front_laws.proofs.MovedDocuments.{brace_no_mark}
 use Rattle.front_laws.proofs.ParamFronts.{property_kind_place, property_kind_named, SignalParens, signal_params_halt, empty_parens, no_params, method_params_halt}
-use Rattle.front_laws.proofs.StatementFronts.{IsBlockFront, block_fails}
+use Rattle.front_laws.proofs.StatementFronts.{IsBlockFront, any_block_halts}
 use Rattle.front_laws.proofs.ValueFronts.{IsValueFront, FrontsUnder, value_halts}
 
 -- with others behind them the tokens are a member without its end, before a `}`
@@ -194,7 +194,7 @@ block_on d t u ps n xs word_is is params us w = method_with d w.others t u ps (u
 method_block_halts : (d : ℕ) (i : Input) (e : DocFault) → method_block d i ≡ Err e → Halts (IsBlockFront d) i e
 unfolding method_block
 method_block_halts d i e h = elim (if_ok (is_mark OpenBrace (ahead i)) _ _ _ h) [
-  | inl a ↦ faults_halts (block_fails d i e a.0 a.1)
+  | inl a ↦ any_block_halts d i e a.0 a.1
   | inr a ↦ halts_here (refused_place {A = List Stmt} i e a.1) (record { others = in_braces []; most = 200; enough = omega arith; value = []; spelled = no_block d })
 ]
 

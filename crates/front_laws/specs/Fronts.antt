@@ -7,7 +7,7 @@ use Rattle.qml_ast.specs.declared.span.Span.{Span}
 use Rattle.qml_ast.specs.declared.stmt.Stmt.{Stmt}
 use Rattle.qml_grammar.specs.DocumentGrammar.{IsDocumentWithin}
 use Rattle.qml_grammar.specs.ExpressionGrammar.{IsMark}
-use Rattle.qml_grammar.specs.Inputs.{Input, Parser, place}
+use Rattle.qml_grammar.specs.Inputs.{Input, place}
 use Rattle.qml_grammar.specs.Lexemes.{Token, is_mark}
 use Rattle.qml_grammar.specs.StatementGrammar.{IsWord, IsStmt}
 use Rattle.qml_grammar.specs.declared.mark.Mark.TheVariants.{CloseBrace, Dot}
@@ -16,8 +16,8 @@ use Rattle.grammar_laws.specs.Faults.{IsFaultAt}
 use Rattle.grammar_laws.specs.Laws.{Way}
 use Rattle.fault_laws.specs.Faults.{is_dotted, place_before}
 
--- the tokens before the fault are such ones
-pub record FaultsBehind {A : Type 0} (Front : List Token → Type 0) (p : Parser A) (i : Input) (fault : DocFault) : Type 0 where
+-- the fault stands behind such tokens
+pub record FaultsBehind (Front : List Token → Type 0) (i : Input) (fault : DocFault) : Type 0 where
   pub nodes : ℕ
   pub text : List Token
   pub at : Input

@@ -15,6 +15,6 @@ ghost use Rattle.qml_grammar.specs.Statements.{statement};
 /// level more may be opened. The one exception is a fault further on in the name of a module, which is refused
 /// only when it is read: no document has a module's name with a dot.
 pub fn fronts_go_on()
-    ensures statements { (d : ℕ) (i : Input) (e : DocFault) → statement d i ≡ Err e → FaultsBehind (IsStmtFront d) (statement d) i e }
+    ensures statements { (d : ℕ) (i : Input) (e : DocFault) → statement d i ≡ Err e → FaultsBehind (IsStmtFront d) i e }
     ensures documents { (ts : List Token) (end : Span) (e : DocFault) → reading ts end ≡ Err e → FrontOfFault ts end e }
 {}
