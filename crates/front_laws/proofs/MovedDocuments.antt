@@ -1,5 +1,5 @@
 -- What is spelled as a value, a member or an object stays so with more nodes, one level more and before a `}`.
-use Rattle.std.proofs.Common.{◌≡◌, ℕ, zero, suc, ◌≤◌, Bool, true, false, List, ◌∷◌, Option, Some, None, refl, sym, ap, subst, ◌∙◌}
+use Rattle.std.proofs.Common.{◌≡◌, ℕ, zero, suc, ◌≤◌, true, false, List, Option, Some, None, refl, sym, ap, subst, ◌∙◌}
 use Rattle.qml_ast.specs.declared.decl.Decl.{Decl}
 use Rattle.qml_ast.specs.declared.decl.Init.{Init}
 use Rattle.qml_ast.specs.declared.decl.Member.{Member}
@@ -8,7 +8,6 @@ use Rattle.qml_ast.specs.declared.span.Span.{Span}
 use Rattle.qml_grammar.specs.DocumentGrammar.{IsNoType, AreSignalParens, nothing, none, some, IsObject, object, IsValue, expr, value_object, IsMaybeValue, no_value, a_value, IsShortMember, id, property, fixed, signal, initialised, handled, IsMember, short, method, group, child, AreEntries, no_entries, more_entries, IsEntry, entry, AreMembers, no_members, more_members}
 use Rattle.qml_grammar.specs.Lexemes.{Token, is_mark}
 use Rattle.qml_grammar.specs.Marks.{same_mark, mark_number}
-use Rattle.qml_grammar.specs.StatementGrammar.{follow}
 use Rattle.qml_grammar.specs.declared.mark.Mark.{Mark}
 use Rattle.qml_grammar.specs.declared.mark.Mark.TheVariants.{OpenBrace, CloseBrace, OpenParen, Colon}
 use Rattle.document_laws.proofs.Steps.{no_level, one_less}

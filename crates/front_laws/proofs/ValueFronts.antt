@@ -1,9 +1,8 @@
 -- What stands before the first fault of an object or a value can go on, if what stands in braces can.
-use Rattle.std.proofs.Common.{◌≡◌, ℕ, suc, ◌≤◌, true, false, if◌then◌else◌, List, [], ◌∷◌, ◌++◌, Option, Some, None, Result, Ok, Err, inl, inr, refl, ap, arith}
+use Rattle.std.proofs.Common.{◌≡◌, ℕ, suc, true, List, [], ◌∷◌, ◌++◌, Option, Some, None, Err, inl, inr, refl, ap, arith}
 use Rattle.qml_ast.specs.declared.decl.Decl.{Decl, roll-Decl}
 use Rattle.qml_ast.specs.declared.decl.Init.TheVariants as ii
 use Rattle.qml_ast.specs.declared.decl.Member.{Member}
-use Rattle.qml_ast.specs.declared.expr.Expr.{Expr}
 use Rattle.qml_ast.specs.declared.fault.DocFault.{DocFault}
 use Rattle.qml_grammar.specs.DocumentGrammar.{IsName, IsNoType, IsObject, object, IsValue, expr as an_expr, value_object, AreEntries, no_entries, AreMembers, no_members}
 use Rattle.qml_grammar.specs.Documents.{value_place, Valued, Under, body, object_in, object_value, expr_value, value_in}
