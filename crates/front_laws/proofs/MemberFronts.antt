@@ -42,7 +42,7 @@ use Rattle.front_laws.proofs.WordFronts.{IsShortFront, IsMemberFront, id_halts, 
 -- What has an end
 
 -- nothing more is wanted before a `}`
-pub end_at_brace : (last next : Option Token) → Brace next → IsEnd last [] next
+end_at_brace : (last next : Option Token) → Brace next → IsEnd last [] next
 end_at_brace last next b = nothing refl (brace_no_semicolon next b) (brace_ends last next b)
 
 module _ {A : Type 0} (Spells : ℕ → List Token → Option Token → A → Type 0) where

@@ -26,7 +26,7 @@ use Rattle.front_laws.proofs.Going.{HaltsOn, Halts, halts_here, halts_as, halts_
 
 -- Kinds
 
-pub kind_place : (i : Input) (e : DocFault) → kind i ≡ Err e → IsFaultAt e (place i)
+kind_place : (i : Input) (e : DocFault) → kind i ≡ Err e → IsFaultAt e (place i)
 unfolding kind
 kind_place i e h = elim (if_ok (is_dotted_kind i.rest) _ _ _ h) [
   | inl a ↦ unsupported_place {A = List ℕ} i e a.1
@@ -92,7 +92,7 @@ module _ {A : Type 0} (item : Parser A) (Item : List Token → A → Type 0) (Li
       let o = ahead_some (is_mark Comma) refl i t in
       halts_behind (way_token o.token o.rest) (halts_as (λ ts w. subst (Becoming (UntilClose Listed)) (sym (append_assoc us (o.token ∷ []) ts)) (next_closed us o.token xs p o.is ts w)) (fails (after i) e (made_err item _ (after i) e h)))
 
-  pub items_halt : (i : Input) (e : DocFault) → items_until_paren item Item i ≡ Err e → Halts (Becoming (UntilClose Listed)) i e
+  items_halt : (i : Input) (e : DocFault) → items_until_paren item Item i ≡ Err e → Halts (Becoming (UntilClose Listed)) i e
   items_halt i e h = elim (bind_err (item i) _ _ h) [
     | before g ↦ halts_as first_closed (fails i e g)
     | onward x k g g2 ↦ (

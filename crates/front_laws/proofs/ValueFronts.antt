@@ -19,8 +19,7 @@ use Rattle.grammar_laws.proofs.Tools.{if_ok, ahead_gives, way_token}
 use Rattle.front_laws.proofs.DocumentSteps.{refused_place, unsupported_place, Onward}
 use Rattle.front_laws.proofs.DocumentTokens.{upper_name, an_upper, in_braces, upper_is}
 use Rattle.front_laws.proofs.Going.{Halts, halts_here, halts_as, halts_behind, faults_halts, made_err, Fills, fills, the_mark, mark_is}
-use Rattle.front_laws.proofs.Moved.{brace_stops}
-use Rattle.front_laws.proofs.MovedDocuments.{brace_no_mark}
+use Rattle.front_laws.proofs.Moved.{brace_tests, brace_stops}
 use Rattle.front_laws.proofs.PartFronts.{Brace}
 use Rattle.front_laws.proofs.StatementFronts.{IsWholeFront, whole_fails, empty_whole}
 
@@ -67,7 +66,7 @@ empty_group d n = fills (in_braces []) 200 [] (omega arith) refl (record { less 
 
 -- Objects
 
-pub some_object : (d : ℕ) → IsObject 200 (suc d) (an_upper ∷ in_braces []) (roll-Decl (record { name = upper_name; members = []; span = an_upper.span }))
+some_object : (d : ℕ) → IsObject 200 (suc d) (an_upper ∷ in_braces []) (roll-Decl (record { name = upper_name; members = []; span = an_upper.span }))
 some_object d = object d an_upper (the_mark OpenBrace) [] (the_mark CloseBrace) upper_name [] refl refl refl upper_is refl (mark_is OpenBrace) (no_members refl refl) (mark_is CloseBrace)
 
 pub missing_object : (d : ℕ) → IsObjectFront d []
@@ -83,7 +82,7 @@ named_object d t n us is up w =
 
 brace_no_type : (ts : List Token) (next : Option Token) → Brace next → IsNoType ts next
 unfolding same_mark mark_number
-brace_no_type ts next b a z names up up_last = brace_no_mark OpenBrace refl next b
+brace_no_type ts next b a z names up up_last = brace_tests (is_mark OpenBrace) (λ s. refl) next b
 
 -- what is not empty
 record First (ts : List Token) : Type 0 where

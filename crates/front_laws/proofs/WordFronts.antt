@@ -23,7 +23,7 @@ use Rattle.document_laws.proofs.Params.{method_params_cover}
 use Rattle.front_laws.proofs.DocumentSteps.{refused_place, never, Onward, Becoming, goes_with}
 use Rattle.front_laws.proofs.DocumentTokens.{lower_name, a_lower, property_word, in_braces, property_is, lower_is, lower_no_alias}
 use Rattle.front_laws.proofs.Going.{HaltsOn, Halts, halts_here, halts_as, halts_behind, halts_expect, halts_name, faults_halts, made_err, completes, the_mark, mark_is}
-use Rattle.front_laws.proofs.MovedDocuments.{brace_no_mark}
+use Rattle.front_laws.proofs.Moved.{brace_tests}
 use Rattle.front_laws.proofs.ParamFronts.{property_kind_place, property_kind_named, SignalParens, signal_params_halt, empty_parens, no_params, method_params_halt}
 use Rattle.front_laws.proofs.StatementFronts.{IsBlockFront, block_fails}
 use Rattle.front_laws.proofs.ValueFronts.{IsValueFront, FrontsUnder, value_halts}
@@ -86,7 +86,7 @@ kind_with fixed d ts us t u k n e kind_is no_alias name_is = goes_with us (mm.Pr
   kind_is = kind_is;
   no_alias = no_alias;
   name_is = name_is;
-  spelled = no_value refl refl refl (brace_no_mark Colon refl next b);
+  spelled = no_value refl refl refl (brace_tests (is_mark Colon) (λ s. refl) next b);
 })
 
 -- with the front of one
@@ -117,7 +117,7 @@ fixed_on d r t first_is word_is us w = completes w.others w.most w.value w.enoug
 
 some_fixed : (d : ℕ) (r : Token) → IsWord r ww.ReadOnly → IsShortFront d (r ∷ [])
 unfolding same_mark mark_number
-some_fixed d r first_is = goes_with (property_word ∷ a_lower ∷ a_lower ∷ []) (mm.Property true lower_name lower_name None a_lower.span a_lower.span a_lower.span) refl (λ next b. a_fixed r property_word a_lower a_lower [] lower_name lower_name None a_lower.span refl refl first_is property_is lower_is lower_no_alias lower_is (no_value refl refl refl (brace_no_mark Colon refl next b)))
+some_fixed d r first_is = goes_with (property_word ∷ a_lower ∷ a_lower ∷ []) (mm.Property true lower_name lower_name None a_lower.span a_lower.span a_lower.span) refl (λ next b. a_fixed r property_word a_lower a_lower [] lower_name lower_name None a_lower.span refl refl first_is property_is lower_is lower_no_alias lower_is (no_value refl refl refl (brace_tests (is_mark Colon) (λ s. refl) next b)))
 
 module _ (d : ℕ) (v : Under) (inside : FrontsUnder d v) where
   property_value_halts : (fixed : Bool) (t u : Token) (k n : List ℕ) (at there : Span) (i : Input) (e : DocFault) → IsName t k → is_word ww.Alias (Some t) ≡ false → IsName u n → property_value d v fixed k at n there i ≡ Err e → HaltsOn (IsKindFront fixed d) (t ∷ u ∷ []) i e
@@ -162,7 +162,7 @@ module _ (d : ℕ) (v : Under) (inside : FrontsUnder d v) where
 
 some_signal : (d : ℕ) (t : Token) → IsWord t ww.Signal → IsShortFront d (t ∷ [])
 unfolding same_mark mark_number
-some_signal d t is = goes_with (a_lower ∷ []) (mm.Signal lower_name [] a_lower.span) refl (λ next b. a_signal t a_lower [] lower_name [] refl refl is lower_is (nothing refl refl (brace_no_mark OpenParen refl next b)))
+some_signal d t is = goes_with (a_lower ∷ []) (mm.Signal lower_name [] a_lower.span) refl (λ next b. a_signal t a_lower [] lower_name [] refl refl is lower_is (nothing refl refl (brace_tests (is_mark OpenParen) (λ s. refl) next b)))
 
 signal_on : (d : ℕ) (t u : Token) (n : List ℕ) → IsWord t ww.Signal → IsName u n → (us : List Token) → Becoming SignalParens us → IsShortFront d (t ∷ u ∷ us)
 signal_on d t u n word_is is us w = goes_with w.others (mm.Signal n w.value u.span) refl (λ next b. a_signal t u (us ++ w.others) n w.value refl refl word_is is (w.spelled next))
