@@ -1,34 +1,32 @@
 -- What stands before the first fault of a document can go on, but where it ends in the name of a module.
-use Rattle.std.proofs.Common.{◌≡◌, ℕ, suc, ◌+◌, ◌≤◌, ◌<◌, ◌==◌, ◌||◌, ◌⊎◌, not, Bool, true, false, is_some, if◌then◌else◌, List, [], ◌∷◌, ◌++◌, Option, Some, None, Result, Ok, Err, inl, inr, refl, sym, ap, subst, subst₂, ◌∙◌, arith, append_assoc, append-nil}
+use Rattle.std.proofs.Common.{◌≡◌, ℕ, suc, ◌+◌, ◌≤◌, ◌<◌, ◌==◌, ◌||◌, ◌⊎◌, not, Bool, true, false, is_some, List, [], ◌∷◌, ◌++◌, Option, Some, None, Result, Ok, Err, inl, inr, refl, sym, ap, subst, subst₂, ◌∙◌, arith, append_assoc, append-nil}
 use Rattle.qml_ast.specs.declared.decl.Decl.{Decl, roll-Decl}
 use Rattle.qml_ast.specs.declared.document.Document.{Document}
 use Rattle.qml_ast.specs.declared.document.Import.{Import}
 use Rattle.qml_ast.specs.declared.fault.DocFault.{DocFault}
 use Rattle.qml_ast.specs.declared.span.Span.{Span}
-use Rattle.qml_grammar.specs.DocumentGrammar.{IsName, IsObject, object, no_members, IsImport, import as an_import, AreImports, none, more, IsDocumentWithin, document as a_document}
+use Rattle.qml_grammar.specs.DocumentGrammar.{IsObject, object, no_members, IsImport, import as an_import, AreImports, none, more, document as a_document}
 use Rattle.qml_grammar.specs.Documents.{object_in, under, import_in, one_import, imports, root, nothing_more, document, reading}
 use Rattle.qml_grammar.specs.Ends.{may_end, ended}
 use Rattle.qml_grammar.specs.Inputs.{Input, ahead, place}
 use Rattle.qml_grammar.specs.Lexemes.{plain, Token, head, is_mark, is_word, same_line}
-use Rattle.qml_grammar.specs.Names.{is_dotted_type, upper_first}
-use Rattle.qml_grammar.specs.StatementGrammar.{follow, IsEnd, semicolon, nothing}
+use Rattle.qml_grammar.specs.Names.{is_dotted_type}
+use Rattle.qml_grammar.specs.StatementGrammar.{follow, semicolon, nothing}
 use Rattle.qml_grammar.specs.declared.mark.Mark.TheVariants.{OpenBrace, CloseBrace, Semicolon}
 use Rattle.qml_grammar.specs.declared.word.Word.TheVariants as ww
 use Rattle.grammar_laws.specs.Faults.{IsFaultAt}
 use Rattle.grammar_laws.specs.Laws.{Way}
 use Rattle.grammar_laws.proofs.Local.{before, onward, bind_err}
 use Rattle.grammar_laws.proofs.Tools.{bind_ok, if_ok, same_value, same_input}
-use Rattle.statement_laws.specs.Laws.{Covers}
 use Rattle.statement_laws.proofs.Ways.{ahead_follow, follow_both}
 use Rattle.document_laws.proofs.Imports.{import_covers, imports_cover}
 use Rattle.document_laws.proofs.Sound.{object_covers, under_sound}
-use Rattle.document_laws.proofs.Tokens.{name_no_mark, upper_no_word}
 use Rattle.fault_laws.specs.Faults.{place_before}
 use Rattle.front_laws.specs.Fronts.{IsDocumentFront, EndsInModule, FrontOfFault}
-use Rattle.front_laws.proofs.DocumentSteps.{refused_place, unsupported_place, never, Adding, while_halts, Becoming}
+use Rattle.front_laws.proofs.DocumentSteps.{refused_place, unsupported_place, never, Adding, while_halts}
 use Rattle.front_laws.proofs.DocumentTokens.{upper_name, in_braces, upper_is, upper_is_upper}
-use Rattle.front_laws.proofs.Going.{HaltsOn, Halts, halts_here, halts_as, halts_by, halts_behind, made_err, the_mark, mark_is}
-use Rattle.front_laws.proofs.ImportFronts.{AnyImport, InModule, IsImportFront, ended_import_halts}
+use Rattle.front_laws.proofs.Going.{HaltsOn, Halts, halts_here, halts_by, halts_behind, made_err, the_mark, mark_is}
+use Rattle.front_laws.proofs.ImportFronts.{IsImportFront, ended_import_halts}
 use Rattle.front_laws.proofs.LevelFronts.{fronts_under}
 use Rattle.front_laws.proofs.MovedDocuments.{moved_object}
 use Rattle.front_laws.proofs.ValueFronts.{IsObjectFront, object_halts}
@@ -142,7 +140,7 @@ one_import_adds xs i ys j t h =
       text = c.text;
       way = subst (λ k. Way i k 0 c.text) there c.way;
       spelled = λ us p. subst (λ zs. AreImports (us ++ c.text) (ahead j) zs) (same_value (xs ++ a.value ∷ []) ys a.at j a.onward) (subst (λ k. AreImports (us ++ c.text) (ahead k) (xs ++ a.value ∷ [])) there
-      (imports_append c.text (ahead a.at) (a.value ∷ []) (ahead_follow c.way) p (one_import_alone c.text (ahead a.at) a.value c.spelled)));
+          (imports_append c.text (ahead a.at) (a.value ∷ []) (ahead_follow c.way) p (one_import_alone c.text (ahead a.at) a.value c.spelled)));
     }
 
 imports_halt : (i : Input) (e : DocFault) → imports i ≡ Err e → Halts CanBegin i e

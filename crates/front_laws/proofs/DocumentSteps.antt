@@ -1,17 +1,15 @@
 -- Steps of readings that fail, with what was read before them, and what goes on before a `}`.
-use Rattle.std.proofs.Common.{◌≡◌, ℕ, zero, suc, ◌≤◌, Bool, true, List, [], ◌∷◌, ◌++◌, length, Option, Some, Result, Ok, Err, sym, subst, subst₂, arith, append_assoc, append-nil}
+use Rattle.std.proofs.Common.{◌≡◌, ℕ, zero, suc, Bool, true, List, [], ◌++◌, length, Option, Result, Ok, Err, sym, subst, subst₂, arith, append_assoc, append-nil}
 use Rattle.qml_ast.specs.declared.fault.DocFault.{DocFault}
 use Rattle.qml_ast.specs.declared.fault.DocFault.TheVariants.{Unsupported}
-use Rattle.qml_grammar.specs.Inputs.{Input, Parser, ahead, place, refusal, expect, any_name, repeated, while_next}
-use Rattle.qml_grammar.specs.Lexemes.{Token, name_of, is_mark}
-use Rattle.qml_grammar.specs.declared.mark.Mark.{Mark}
+use Rattle.qml_grammar.specs.Inputs.{Input, Parser, ahead, place, refusal, repeated, while_next}
+use Rattle.qml_grammar.specs.Lexemes.{Token}
 use Rattle.grammar_laws.specs.Faults.{IsFaultAt, unsupported}
 use Rattle.grammar_laws.specs.Laws.{Way}
 use Rattle.grammar_laws.proofs.Growing.{went_on, stopped, went}
-use Rattle.grammar_laws.proofs.Local.{before, onward, bind_err}
-use Rattle.grammar_laws.proofs.Tools.{way_none, way_then, expected, named, same_value, same_input}
-use Rattle.grammar_laws.proofs.Viable.{same_fault, refused_once, name_once, now, later, stuck_on}
-use Rattle.front_laws.proofs.Going.{HaltsOn, halts_here, halts_behind, expect_place, never_err, Completes, completes, Fills}
+use Rattle.grammar_laws.proofs.Tools.{way_none, way_then, same_value, same_input}
+use Rattle.grammar_laws.proofs.Viable.{same_fault, refused_once, now, later, stuck_on}
+use Rattle.front_laws.proofs.Going.{HaltsOn, halts_behind, never_err, Completes, completes, Fills}
 use Rattle.front_laws.proofs.PartFronts.{Brace}
 
 -- Faults at the next token
@@ -25,25 +23,6 @@ unsupported_place {A = A} i e h = unsupported (sym (same_fault {A = A} (Unsuppor
 -- what gives a value doesn't fail
 pub never : {A X : Type 0} (x : A) (i : Input) (e : DocFault) → ◌≡◌ {A = Result (A × Input) DocFault} (Ok (x, i)) (Err e) → X
 never x i e h = absurd (never_err x i e h)
-
--- Readings in a row
-
-abbrev Then : {A B : Type 0} → Result (A × Input) DocFault → (A × Input → Result (B × Input) DocFault) → Result (B × Input) DocFault
-Then r f = elim r [ Ok p ↦ f p | Err g ↦ Err g ]
-
--- a mark that may be missing, and what is read behind it
-pub behind_mark : {B : Type 0} {V : List Token → Type 0} {pre : List Token} (m : Mark) (f : Unit {0} × Input → Result (B × Input) DocFault) (i : Input) (e : DocFault) → Then (expect m i) f ≡ Err e → V pre → ((t : Token) → is_mark m (Some t) ≡ true → (u : Unit {0}) (k : Input) → Way i k 0 (t ∷ []) → f (u, k) ≡ Err e → HaltsOn V (pre ++ t ∷ []) k e) → HaltsOn V pre i e
-behind_mark m f i e h v more = elim (bind_err (expect m i) f e h) [
-  | before g ↦ halts_here (expect_place m i e g) v
-  | onward u k g g2 ↦ (let t = expected m i k u g in halts_behind t.way (more t.token t.is u k t.way g2))
-]
-
--- likewise a name
-pub behind_name : {B : Type 0} {V : List Token → Type 0} {pre : List Token} (f : List ℕ × Input → Result (B × Input) DocFault) (i : Input) (e : DocFault) → Then (any_name i) f ≡ Err e → V pre → ((t : Token) (n : List ℕ) → name_of (Some t) ≡ Some n → (k : Input) → Way i k 0 (t ∷ []) → f (n, k) ≡ Err e → HaltsOn V (pre ++ t ∷ []) k e) → HaltsOn V pre i e
-behind_name f i e h v more = elim (bind_err (any_name i) f e h) [
-  | before g ↦ halts_here (name_once i e g).place v
-  | onward n k g g2 ↦ (let t = named i k n g in halts_behind t.way (more t.token n t.is k t.way g2))
-]
 
 -- Loops
 

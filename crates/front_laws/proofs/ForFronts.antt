@@ -107,8 +107,8 @@ module _ (d : ℕ) (v : Bodies) (halts : HaltsInside d v) (t : Token) (word_is :
               (λ q u k f q_is to g. halts_then (simple_before CloseParen d) _ k
               (λ f2 g2. halts_as (λ ws w. parts_go_on (o ∷ us ++ p ∷ [] ++ vs ++ q ∷ [] ++ ws) (third_goes_on q q_is ws w)) (simple_before_halts CloseParen d k f2 g2))
               (λ b l f2 read g2.
-                let c = simple_before_covers CloseParen d k b l read in
-                halts_behind c.way (body_halts q q_is c.text b (λ most z enough is. calm_maybe_simple enough (λ x. close_stops (Some z) is) c.spelled) l f2 g2)) f g) e h
+              let c = simple_before_covers CloseParen d k b l read in
+              halts_behind c.way (body_halts q q_is c.text b (λ most z enough is. calm_maybe_simple enough (λ x. close_stops (Some z) is) c.spelled) l f2 g2)) f g) e h
 
       tested_halts : (i : Input) (e : DocFault) → for_test d v a i ≡ Err e → HaltsOn ForFront (o ∷ us) i e
       unfolding for_test
@@ -116,8 +116,8 @@ module _ (d : ℕ) (v : Bodies) (halts : HaltsInside d v) (t : Token) (word_is :
           (λ p u k f p_is to g. halts_then (test d) _ k
           (λ f2 g2. halts_as (λ vs w. parts_go_on (o ∷ us ++ p ∷ [] ++ vs) (second_goes_on p p_is vs w)) (test_halts d k f2 g2))
           (λ y l f2 read g2.
-            let c = test_covers d k y l read in
-            halts_behind c.way (step_halts p p_is c.text y (λ most q enough is. calm_maybe_whole enough (λ x. semicolon_stops (Some q) is) c.spelled) l f2 g2)) f g) e h
+          let c = test_covers d k y l read in
+          halts_behind c.way (step_halts p p_is c.text y (λ most q enough is. calm_maybe_whole enough (λ x. semicolon_stops (Some q) is) c.spelled) l f2 g2)) f g) e h
 
   no_parts : IsPartsFront d []
   no_parts = from_first (the_mark OpenParen) (mark_is OpenParen) (the_mark OpenParen ∷ []) 200 None (omega arith) refl (IsMaybeSimple.none refl refl)
@@ -127,8 +127,8 @@ module _ (d : ℕ) (v : Bodies) (halts : HaltsInside d v) (t : Token) (word_is :
       (λ o u k f o_is to g. halts_then (simple_before Semicolon d) _ k
       (λ f2 g2. halts_as (λ us w. parts_go_on (o ∷ us) (first_goes_on o o_is us w)) (simple_before_halts Semicolon d k f2 g2))
       (λ a l f2 read g2.
-        let c = simple_before_covers Semicolon d k a l read in
-        halts_behind c.way (tested_halts o o_is c.text a (λ most p enough is. calm_maybe_simple enough (λ x. semicolon_stops (Some p) is) c.spelled) l f2 g2)) f g) e h
+      let c = simple_before_covers Semicolon d k a l read in
+      halts_behind c.way (tested_halts o o_is c.text a (λ most p enough is. calm_maybe_simple enough (λ x. semicolon_stops (Some p) is) c.spelled) l f2 g2)) f g) e h
 
 pub for_halts : (d : ℕ) (v : Bodies) → HaltsInside d v → (i : Input) (e : DocFault) → is_word ww.For (ahead i) ≡ true → for_statement d v i ≡ Err e → Halts (IsStmtFrontFor d) i e
 unfolding for_statement

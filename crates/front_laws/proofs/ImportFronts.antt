@@ -1,5 +1,5 @@
 -- What stands before the first fault of an import can go on, or it ends in the name of a module.
-use Rattle.std.proofs.Common.{◌≡◌, ℕ, suc, ◌≤◌, ◌<◌, ◌==◌, ◌||◌, ◌⊎◌, not, Bool, true, false, if◌then◌else◌, is_some, List, [], ◌∷◌, ◌++◌, Option, Some, None, Result, Ok, Err, inl, inr, refl, sym, ap, subst, ◌∙◌, arith, append_assoc, codes}
+use Rattle.std.proofs.Common.{◌≡◌, ℕ, ◌≤◌, ◌⊎◌, Bool, true, false, is_some, List, [], ◌∷◌, ◌++◌, Option, Some, Ok, Err, inl, inr, refl, sym, ap, subst, ◌∙◌, arith, codes}
 use Rattle.qml_ast.specs.declared.document.Import.{Import}
 use Rattle.qml_ast.specs.declared.fault.DocFault.{DocFault}
 use Rattle.qml_ast.specs.declared.fault.DocFault.TheVariants.{Unsupported}
@@ -8,10 +8,9 @@ use Rattle.qml_grammar.specs.DocumentGrammar.{IsName, IsImport, import as an_imp
 use Rattle.qml_grammar.specs.Documents.{module_part, module_rest, module_name, minor_of, is_decimal, version, unnamed, import_version, import_module, is_text, import_in}
 use Rattle.qml_grammar.specs.Ends.{ended}
 use Rattle.qml_grammar.specs.ExpressionGrammar.{IsMark}
-use Rattle.qml_grammar.specs.Inputs.{Input, ahead, after, place, any_name, while_next}
+use Rattle.qml_grammar.specs.Inputs.{Input, ahead, after, place, any_name}
 use Rattle.qml_grammar.specs.Lexemes.{plain, decimal, Token, is_mark, is_word, is_name}
 use Rattle.qml_grammar.specs.StatementGrammar.{IsWord, semicolon}
-use Rattle.qml_grammar.specs.Words.{same_word, word_number}
 use Rattle.qml_grammar.specs.declared.mark.Mark.TheVariants.{Semicolon, Dot}
 use Rattle.qml_grammar.specs.declared.word.Word.TheVariants as ww
 use Rattle.grammar_laws.specs.Faults.{IsFaultAt, unsupported}
@@ -22,8 +21,8 @@ use Rattle.grammar_laws.proofs.Viable.{name_once}
 use Rattle.document_laws.proofs.Imports.{module_is, version_is, IsBare, bare, bare_covers}
 use Rattle.fault_laws.specs.Faults.{are_dotted, is_dotted}
 use Rattle.fault_laws.proofs.Dotted.{both_true}
-use Rattle.front_laws.proofs.DocumentSteps.{refused_place, unsupported_place, never, behind_name, Becoming}
-use Rattle.front_laws.proofs.Going.{HaltsOn, Halts, halts_here, halts_as, halts_behind, made_err, halts_ended, halts_while, fills, put, the_mark, mark_is}
+use Rattle.front_laws.proofs.DocumentSteps.{refused_place, unsupported_place, never, Becoming}
+use Rattle.front_laws.proofs.Going.{HaltsOn, Halts, halts_here, halts_as, halts_behind, halts_name, made_err, halts_ended, halts_while, fills, put, the_mark, mark_is}
 
 -- Imports that are made
 
@@ -100,7 +99,7 @@ in_module t u us is is_named g = record {
 
 module_halts : (t : Token) (i : Input) (e : DocFault) → IsWord t ww.Import → module_name i ≡ Err e → HaltsOn IsImportFront (t ∷ []) i e
 unfolding module_name module_rest
-module_halts t i e is h = behind_name _ i e h (word_only t is) (λ u n u_is k w g. halts_as (λ us. in_module t u us is (ap is_some u_is)) (halts_while EndsInDot (is_mark Dot) module_part part_halts part_more _ k e g))
+module_halts t i e is h = halts_name _ i (word_only t is) (λ u n k f u_is w g. halts_as (λ us. in_module t u us is (ap is_some u_is)) (halts_while EndsInDot (is_mark Dot) module_part part_halts part_more _ k f g)) e h
 
 -- Versions
 

@@ -1,5 +1,5 @@
 -- What stands before the first fault in the body of an object or a group can go on, level by level.
-use Rattle.std.proofs.Common.{◌≡◌, ℕ, zero, suc, ◌≤◌, true, List, [], ◌∷◌, ◌++◌, Option, Some, Ok, Err, refl, sym, ap, subst, ◌∙◌, arith, append_assoc, append-nil}
+use Rattle.std.proofs.Common.{◌≡◌, ℕ, zero, suc, ◌≤◌, true, List, [], ◌∷◌, ◌++◌, Option, Some, Ok, Err, refl, sym, ap, ◌∙◌, arith, append_assoc, append-nil}
 use Rattle.qml_ast.specs.declared.decl.Member.{Member}
 use Rattle.qml_ast.specs.declared.fault.DocFault.{DocFault}
 use Rattle.qml_grammar.specs.DocumentGrammar.{IsMember, AreEntries, no_entries, more_entries, IsEntry, AreMembers, no_members, more_members}
@@ -13,16 +13,15 @@ use Rattle.qml_grammar.specs.Statements.{goes_on_inside}
 use Rattle.qml_grammar.specs.declared.mark.Mark.TheVariants.{OpenBrace, CloseBrace}
 use Rattle.grammar_laws.specs.Laws.{Way}
 use Rattle.grammar_laws.proofs.Local.{before, onward, bind_err}
-use Rattle.grammar_laws.proofs.Tools.{bind_ok, ahead_some, way_token, same_input}
+use Rattle.grammar_laws.proofs.Tools.{ahead_some, way_token}
 use Rattle.grammar_laws.proofs.Viable.{too_deep_once}
-use Rattle.statement_laws.specs.Laws.{Covers}
-use Rattle.statement_laws.proofs.Ends.{IsEnded, ended_covers}
+use Rattle.statement_laws.proofs.Ends.{IsEnded}
 use Rattle.statement_laws.proofs.Loops.{while_lists}
 use Rattle.document_laws.proofs.Lists.{member_begins, items_members, AnEntry, ended_entry, entry_begins, items_entries}
-use Rattle.document_laws.proofs.Sound.{SoundUnder, member_covers, entry_covers, member_added, entry_added, under_sound}
+use Rattle.document_laws.proofs.Sound.{SoundUnder, entry_covers, member_added, entry_added, under_sound}
 use Rattle.front_laws.proofs.DocumentSteps.{Onward}
 use Rattle.front_laws.proofs.Going.{Halts, halts_here, halts_as, halts_by, halts_behind, expect_place, made_err, halts_while, completes, fills, the_mark, mark_is}
-use Rattle.front_laws.proofs.MemberFronts.{ended_halts, IsEntryFront, entry_halts, member_halts}
+use Rattle.front_laws.proofs.MemberFronts.{ended_halts, entry_halts, member_halts}
 use Rattle.front_laws.proofs.Moved.{Becomes, same, brace, follow_becomes, moved_end}
 use Rattle.front_laws.proofs.MovedDocuments.{moved_member, moved_entry, moved_entries, moved_members}
 use Rattle.front_laws.proofs.ValueFronts.{IsBodyFront, IsGroupFront, FrontsUnder, empty_body, empty_group}

@@ -1,5 +1,5 @@
 -- What stands before the first fault of a member or of an entry of a group can go on.
-use Rattle.std.proofs.Common.{◌≡◌, ℕ, suc, ◌≤◌, ◌&&◌, ◌⊎◌, not, Bool, true, false, if◌then◌else◌, List, [], ◌∷◌, ◌++◌, Option, Some, None, Result, Ok, Err, inl, inr, refl, sym, ap, ◌∙◌, arith, append_assoc, append-nil, codes, bytes_eq}
+use Rattle.std.proofs.Common.{◌≡◌, ℕ, suc, ◌&&◌, not, Bool, true, false, List, [], ◌∷◌, ◌++◌, Option, Some, None, Result, Err, inl, inr, refl, sym, ap, ◌∙◌, arith, append_assoc, append-nil, codes, bytes_eq}
 use Rattle.std.proofs.lemmas.Bool.{and_parts}
 use Rattle.qml_ast.specs.declared.decl.Member.{Member}
 use Rattle.qml_ast.specs.declared.decl.Member.TheVariants as mm
@@ -7,45 +7,42 @@ use Rattle.qml_ast.specs.declared.fault.DocFault.{DocFault}
 use Rattle.qml_ast.specs.declared.fault.DocFault.TheVariants.{Unsupported}
 use Rattle.qml_ast.specs.declared.path.Path.{Path}
 use Rattle.qml_ast.specs.declared.stmt.Stmt.TheVariants.{Empty}
-use Rattle.qml_grammar.specs.DocumentGrammar.{IsName, is_own_word, IsPath, one, two, IsShortMember, initialised as an_initialised, handled as a_handled, IsMember, short, group as a_group, child as a_child, IsEntry, entry as an_entry}
+use Rattle.qml_grammar.specs.DocumentGrammar.{IsName, is_own_word, IsPath, one, two, IsShortMember, initialised as an_initialised, handled as a_handled, short, group as a_group, child as a_child, IsEntry, entry as an_entry}
 use Rattle.qml_grammar.specs.Documents.{Under, object_in, value_in, id_member, property, fixed_property, signal_member, method, second_name, path_behind, path, handled, initialised, behind_path, path_member, entry_name, entry, alone, child, grouped, begins_on, opens_or_on, is_unsupported_member, named_member, other_member, member_in}
 use Rattle.qml_grammar.specs.Ends.{ended}
 use Rattle.qml_grammar.specs.ExpressionGrammar.{IsMark}
-use Rattle.qml_grammar.specs.Inputs.{Input, Parser, ahead, after, place, expect, any_name}
+use Rattle.qml_grammar.specs.Inputs.{Input, Parser, ahead, after, place}
 use Rattle.qml_grammar.specs.Lexemes.{Token, head, tail, is_mark, is_word, name_of, last_of}
-use Rattle.qml_grammar.specs.Marks.{same_mark, mark_number}
 use Rattle.qml_grammar.specs.Names.{upper_first, lower_first, name_is, is_handler_name, is_handler_path, is_dotted_type, begins_object, begins_group}
-use Rattle.qml_grammar.specs.StatementGrammar.{IsEnd, nothing, IsStmt, empty}
+use Rattle.qml_grammar.specs.StatementGrammar.{IsEnd, nothing, empty}
 use Rattle.qml_grammar.specs.Statements.{statement}
-use Rattle.qml_grammar.specs.declared.mark.Mark.TheVariants.{OpenBrace, CloseBrace, Semicolon, Colon, Dot}
+use Rattle.qml_grammar.specs.declared.mark.Mark.TheVariants.{OpenBrace, Semicolon, Colon, Dot}
 use Rattle.qml_grammar.specs.declared.word.Word.TheVariants as ww
-use Rattle.grammar_laws.specs.Faults.{IsFaultAt, unsupported}
-use Rattle.grammar_laws.specs.Laws.{Way}
+use Rattle.grammar_laws.specs.Faults.{IsFaultAt}
 use Rattle.grammar_laws.proofs.Local.{before, onward, bind_err}
-use Rattle.grammar_laws.proofs.Tools.{if_ok, ahead_some, way_token, Named, named, expected}
+use Rattle.grammar_laws.proofs.Tools.{if_ok, ahead_some, way_token}
 use Rattle.grammar_laws.proofs.Viable.{name_once}
-use Rattle.statement_laws.specs.Laws.{Covers}
 use Rattle.statement_laws.proofs.Ends.{IsEnded}
 use Rattle.statement_laws.proofs.Ways.{SoundAt}
 use Rattle.document_laws.proofs.Names.{name_test}
-use Rattle.document_laws.proofs.Paths.{PathRead, path_read, entry_name_read}
-use Rattle.document_laws.proofs.Sound.{SoundUnder, id_covers, property_covers, fixed_covers, signal_covers, path_covers, entry_covers}
+use Rattle.document_laws.proofs.Paths.{path_read, entry_name_read}
+use Rattle.document_laws.proofs.Sound.{SoundUnder, id_covers, property_covers, fixed_covers, signal_covers, path_covers}
 use Rattle.document_laws.proofs.Steps.{first_is}
-use Rattle.document_laws.proofs.Tokens.{own_not, upper_not_own}
-use Rattle.front_laws.proofs.DocumentSteps.{refused_place, unsupported_place, never, behind_mark, behind_name, Onward, goes_with}
-use Rattle.front_laws.proofs.DocumentTokens.{lower_name, a_lower, an_upper, in_braces, lower_is, lower_no_handler, lower_not_own}
-use Rattle.front_laws.proofs.Going.{HaltsOn, Halts, halts_here, halts_as, halts_behind, made_err, halts_ended, completes, the_mark, mark_is}
+use Rattle.document_laws.proofs.Tokens.{own_not}
+use Rattle.front_laws.proofs.DocumentSteps.{refused_place, unsupported_place, never, Onward, goes_with}
+use Rattle.front_laws.proofs.DocumentTokens.{lower_name, a_lower, lower_is, lower_no_handler, lower_not_own}
+use Rattle.front_laws.proofs.Going.{HaltsOn, Halts, halts_here, halts_as, halts_behind, halts_expect, halts_name, made_err, halts_ended, completes, the_mark, mark_is}
 use Rattle.front_laws.proofs.PartFronts.{Brace}
 use Rattle.front_laws.proofs.Moved.{Becomes, brace, brace_ends, brace_no_semicolon}
 use Rattle.front_laws.proofs.MovedDocuments.{moved_short}
 use Rattle.front_laws.proofs.StatementFronts.{IsStmtFrontFor, any_statement_halts}
-use Rattle.front_laws.proofs.ValueFronts.{IsValueFront, IsObjectFront, IsGroupFront, FrontsUnder, empty_body, empty_group, named_object, missing_object, some_object, missing_value, object_halts, value_halts}
+use Rattle.front_laws.proofs.ValueFronts.{IsValueFront, IsObjectFront, IsGroupFront, FrontsUnder, empty_body, named_object, missing_object, missing_value, object_halts, value_halts}
 use Rattle.front_laws.proofs.WordFronts.{IsShortFront, IsMemberFront, id_halts, property_halts, fixed_halts, signal_halts, method_halts}
 
 -- What has an end
 
 -- nothing more is wanted before a `}`
-pub end_at_brace : (last next : Option Token) → Brace next → IsEnd last [] next
+end_at_brace : (last next : Option Token) → Brace next → IsEnd last [] next
 end_at_brace last next b = nothing refl (brace_no_semicolon next b) (brace_ends last next b)
 
 module _ {A : Type 0} (Spells : ℕ → List Token → Option Token → A → Type 0) where
@@ -60,8 +57,8 @@ module _ {A : Type 0} (Spells : ℕ → List Token → Option Token → A → Ty
   ended_halts p Read i sound moves fails = halts_ended p i
       (λ e g. halts_as (λ ts w. completes w.others w.most w.value w.enough refl (λ next b. ends_there w.most (ts ++ w.others) next w.value b (w.spelled next b))) (fails e g))
       (λ x k g.
-        let c = sound x k g in
-        record { nodes = 0; text = c.text; way = c.way; front = goes_with [] x (sym (append-nil c.text)) (λ next b. ends_there 200 c.text next x b (moves c.text (ahead k) next x (brace b) c.spelled)) })
+      let c = sound x k g in
+      record { nodes = 0; text = c.text; way = c.way; front = goes_with [] x (sym (append-nil c.text)) (λ next b. ends_there 200 c.text next x b (moves c.text (ahead k) next x (brace b) c.spelled)) })
 
 -- Paths
 
@@ -95,12 +92,12 @@ second_place n i e h = elim (if_ok (name_is is_handler_name (ahead i) && not (by
 
 path_halts : (d : ℕ) (i : Input) (e : DocFault) → is_own_word (ahead i) ≡ false → path i ≡ Err e → Halts (IsShortFront d) i e
 unfolding path path_behind
-path_halts d i e own h = behind_name _ i e h (missing_path d) (λ t n is k w g. elim (if_ok (is_mark Dot (ahead k)) _ _ _ g) [
+path_halts d i e own h = halts_name _ i (missing_path d) (λ t n k f is w g. elim (if_ok (is_mark Dot (ahead k)) _ _ _ g) [
   | inl a ↦ (
       let o = ahead_some (is_mark Dot) refl k a.0 in
-      halts_behind (way_token o.token o.rest) (halts_here (second_place n (after k) e (made_err (second_name n) _ (after k) e a.1)) (dot_goes_on d t o.token n (sym (first_is is_own_word w) ∙ own) is o.is)))
-  | inr a ↦ never _ k e a.1
-])
+      halts_behind (way_token o.token o.rest) (halts_here (second_place n (after k) f (made_err (second_name n) _ (after k) f a.1)) (dot_goes_on d t o.token n (sym (first_is is_own_word w) ∙ own) is o.is)))
+  | inr a ↦ never _ k f a.1
+]) e h
 
 module _ (d : ℕ) (t : Token) (us : List Token) (o : Token) (p : Path) (path_is : IsPath (t ∷ us) p) (colon : IsMark o Colon) where
   handled_on : is_handler_path p ≡ true → (vs : List Token) → IsStmtFrontFor d vs → IsShortFront d (((t ∷ us) ++ o ∷ []) ++ vs)
@@ -167,8 +164,8 @@ module _ (d : ℕ) (v : Under) (sound : SoundUnder d v) (inside : FrontsUnder d 
     | before g ↦ path_halts d i e own g
     | onward p k g g2 ↦ (
         let q = path_read i p k own g in
-        halts_behind q.way (behind_mark Colon _ k e g2 (path_goes_on d (q.token ∷ q.others) [] q.token q.others p (sym (append-nil (q.token ∷ q.others))) q.spelled)
-        (λ o colon u l w f. behind_path_halts q.token q.others o p i l e q.spelled colon f)))
+        halts_behind q.way (halts_expect Colon _ k (path_goes_on d (q.token ∷ q.others) [] q.token q.others p (sym (append-nil (q.token ∷ q.others))) q.spelled)
+        (λ o u l f colon w g3. behind_path_halts q.token q.others o p i l f q.spelled colon g3) e g2))
   ]
 
   pub entry_halts : (n : List ℕ) (i : Input) (e : DocFault) → entry d v n i ≡ Err e → Halts (IsEntryFront d n) i e
@@ -178,8 +175,8 @@ module _ (d : ℕ) (v : Under) (sound : SoundUnder d v) (inside : FrontsUnder d 
     | onward m k g g2 ↦ (
         let r = entry_name_read i m k g in
         let t = r.0 in
-        halts_behind t.way (behind_mark Colon _ k e g2 (some_entry d n t.token m t.is r.1)
-        (λ o colon u l w f. halts_as (entry_on d n t.token o m t.is r.1 colon) (value_halts d v inside l e (made_err (value_in d v) _ l e f)))))
+        halts_behind t.way (halts_expect Colon _ k (some_entry d n t.token m t.is r.1)
+        (λ o u l f colon w g3. halts_as (entry_on d n t.token o m t.is r.1 colon) (value_halts d v inside l f (made_err (value_in d v) _ l f g3))) e g2))
   ]
 
   -- a member with an end, alone
@@ -199,12 +196,12 @@ module _ (d : ℕ) (v : Under) (sound : SoundUnder d v) (inside : FrontsUnder d 
 
   group_halts : (i : Input) (e : DocFault) → is_own_word (ahead i) ≡ false → begins_group i.rest ≡ true → grouped v i ≡ Err e → Halts (IsMemberFront d) i e
   unfolding grouped
-  group_halts i e own b h = behind_name _ i e h (missing_member d) (λ t n is k w g.
+  group_halts i e own b h = halts_name _ i (missing_member d) (λ t n k f is w g.
       let s = and_parts (name_is lower_first (ahead i)) (is_mark OpenBrace (head (tail i.rest))) b in
       let low = name_test lower_first (name_of (ahead i)) s.0 in
-      let same : low.0 ≡ n = (let f = sym low.1 ∙ (first_is name_of w ∙ is) in cc) in
+      let same : low.0 ≡ n = (let same_name = sym low.1 ∙ (first_is name_of w ∙ is) in cc) in
       let opens = ap (λ ts. is_mark OpenBrace (head (tail ts))) (sym w.rest) ∙ s.1 in
-      halts_as (group_on d t n (sym (first_is is_own_word w) ∙ own) is (ap lower_first (sym same) ∙ low.2)) (inside.group n k e opens g))
+      halts_as (group_on d t n (sym (first_is is_own_word w) ∙ own) is (ap lower_first (sym same) ∙ low.2)) (inside.group n k f opens g)) e h
 
   named_halts : (i : Input) (e : DocFault) → is_own_word (ahead i) ≡ false → named_member d v i ≡ Err e → Halts (IsMemberFront d) i e
   unfolding named_member

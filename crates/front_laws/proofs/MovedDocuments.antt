@@ -1,5 +1,5 @@
 -- What is spelled as a value, a member or an object stays so with more nodes, one level more and before a `}`.
-use Rattle.std.proofs.Common.{◌≡◌, ℕ, zero, suc, ◌≤◌, Bool, true, false, List, ◌∷◌, Option, Some, None, refl, sym, ap, subst, ◌∙◌}
+use Rattle.std.proofs.Common.{◌≡◌, ℕ, zero, suc, ◌≤◌, List, Option, Some, refl, sym, ap, subst}
 use Rattle.qml_ast.specs.declared.decl.Decl.{Decl}
 use Rattle.qml_ast.specs.declared.decl.Init.{Init}
 use Rattle.qml_ast.specs.declared.decl.Member.{Member}
@@ -8,32 +8,19 @@ use Rattle.qml_ast.specs.declared.span.Span.{Span}
 use Rattle.qml_grammar.specs.DocumentGrammar.{IsNoType, AreSignalParens, nothing, none, some, IsObject, object, IsValue, expr, value_object, IsMaybeValue, no_value, a_value, IsShortMember, id, property, fixed, signal, initialised, handled, IsMember, short, method, group, child, AreEntries, no_entries, more_entries, IsEntry, entry, AreMembers, no_members, more_members}
 use Rattle.qml_grammar.specs.Lexemes.{Token, is_mark}
 use Rattle.qml_grammar.specs.Marks.{same_mark, mark_number}
-use Rattle.qml_grammar.specs.StatementGrammar.{follow}
-use Rattle.qml_grammar.specs.declared.mark.Mark.{Mark}
-use Rattle.qml_grammar.specs.declared.mark.Mark.TheVariants.{OpenBrace, CloseBrace, OpenParen, Colon}
+use Rattle.qml_grammar.specs.declared.mark.Mark.TheVariants.{OpenBrace, OpenParen, Colon}
 use Rattle.document_laws.proofs.Steps.{no_level, one_less}
-use Rattle.document_laws.proofs.Tokens.{mark_is}
-use Rattle.front_laws.proofs.Moved.{Becomes, same, brace, follow_becomes, moved_end, moved_whole, moved_stmt, moved_block}
+use Rattle.front_laws.proofs.Moved.{Becomes, same, follow_becomes, becomes_keeps, moved_end, moved_whole, moved_stmt, moved_block}
 
 -- The token behind
 
--- a `}` is no other mark
-pub brace_no_mark : (m : Mark) → same_mark m CloseBrace ≡ false → (next : Option Token) → is_mark CloseBrace next ≡ true → is_mark m next ≡ false
-brace_no_mark m other None h = absurd cc
-brace_no_mark m other (Some t) h = mark_is m CloseBrace t h ∙ other
-
--- what is no such mark becomes none
-no_mark_kept : (m : Mark) → same_mark m CloseBrace ≡ false → {next next' : Option Token} → Becomes next next' → is_mark m next ≡ false → is_mark m next' ≡ false
-no_mark_kept m other (same e) h = ap (is_mark m) (sym e) ∙ h
-no_mark_kept m other {next' = next'} (brace b) h = brace_no_mark m other next' b
-
 moved_no_type : {ts : List Token} {next next' : Option Token} → Becomes next next' → IsNoType ts next → IsNoType ts next'
 unfolding same_mark mark_number
-moved_no_type w p a z names up up_last = no_mark_kept OpenBrace refl w (p a z names up up_last)
+moved_no_type w p a z names up up_last = becomes_keeps (is_mark OpenBrace) (λ s. refl) w (p a z names up up_last)
 
 moved_parens : {ts : List Token} {next next' : Option Token} {xs : List SignalParam} → Becomes next next' → AreSignalParens ts next xs → AreSignalParens ts next' xs
 unfolding same_mark mark_number
-moved_parens w (nothing ts_is xs_is other) = nothing ts_is xs_is (no_mark_kept OpenParen refl w other)
+moved_parens w (nothing ts_is xs_is other) = nothing ts_is xs_is (becomes_keeps (is_mark OpenParen) (λ s. refl) w other)
 moved_parens w (none o z ts_is xs_is open_is close_is) = none o z ts_is xs_is open_is close_is
 moved_parens w (some o us z ts_is open_is p close_is) = some o us z ts_is open_is p close_is
 
@@ -54,7 +41,7 @@ module _ (most : ℕ) (enough : 200 ≤ most) where
 
     maybe_moves : {ts : List Token} {next next' : Option Token} {x : Option Init} {at there : Span} → Becomes next next' → IsMaybeValue 200 d ts next x at there → IsMaybeValue most (suc d) ts next' x at there
     unfolding same_mark mark_number
-    maybe_moves w (no_value ts_is x_is at_is other) = no_value ts_is x_is at_is (no_mark_kept Colon refl w other)
+    maybe_moves w (no_value ts_is x_is at_is other) = no_value ts_is x_is at_is (becomes_keeps (is_mark Colon) (λ s. refl) w other)
     maybe_moves w (a_value o us y ts_is x_is colon p) = a_value o us y ts_is x_is colon (value_moves w p)
 
     short_moves : {ts : List Token} {next next' : Option Token} {x : Member} → Becomes next next' → IsShortMember 200 d ts next x → IsShortMember most (suc d) ts next' x
@@ -100,12 +87,6 @@ module _ (most : ℕ) (enough : 200 ≤ most) where
 
 pub moved_object : {most d : ℕ} {ts : List Token} {x : Decl} → 200 ≤ most → IsObject 200 d ts x → IsObject most (suc d) ts x
 moved_object {most = most} {d = d} enough p = object_moves most enough d (moved_inside most enough d) p
-
-pub moved_value : {most d : ℕ} {ts : List Token} {next next' : Option Token} {x : Init} {at : Span} → 200 ≤ most → Becomes next next' → IsValue 200 d ts next x at → IsValue most (suc d) ts next' x at
-moved_value {most = most} {d = d} enough w p = value_moves most enough d (moved_inside most enough d) w p
-
-pub moved_maybe : {most d : ℕ} {ts : List Token} {next next' : Option Token} {x : Option Init} {at there : Span} → 200 ≤ most → Becomes next next' → IsMaybeValue 200 d ts next x at there → IsMaybeValue most (suc d) ts next' x at there
-moved_maybe {most = most} {d = d} enough w p = maybe_moves most enough d (moved_inside most enough d) w p
 
 pub moved_short : {most d : ℕ} {ts : List Token} {next next' : Option Token} {x : Member} → 200 ≤ most → Becomes next next' → IsShortMember 200 d ts next x → IsShortMember most (suc d) ts next' x
 moved_short {most = most} {d = d} enough w p = short_moves most enough d (moved_inside most enough d) w p

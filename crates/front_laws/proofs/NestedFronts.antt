@@ -72,8 +72,8 @@ module _ (d : ℕ) (v : Bodies) (inside : SoundInside d v) (halts : HaltsInside 
       halts_token _ i t.token t.rest (λ u k f to g. halts_then (condition d) _ k
       (λ f2 g2. halts_as (head_goes_on d (λ most. IsCondition most (suc d)) t.token While build) (condition_halts d k f2 g2))
       (λ y l f2 read g2.
-        let c = condition_covers d k y l read in
-        halts_behind c.way (halts_as (inside_goes_on d (λ most. IsCondition most (suc d)) t.token While build c.text y (λ most enough. moved_condition enough c.spelled)) (halts.nested l f2 (made_err v.nested (λ z. While y z) l f2 g2)))) f g) e h
+      let c = condition_covers d k y l read in
+      halts_behind c.way (halts_as (inside_goes_on d (λ most. IsCondition most (suc d)) t.token While build c.text y (λ most enough. moved_condition enough c.spelled)) (halts.nested l f2 (made_err v.nested (λ z. While y z) l f2 g2)))) f g) e h
 
   -- `if`
 
@@ -105,7 +105,7 @@ module _ (d : ℕ) (v : Bodies) (inside : SoundInside d v) (halts : HaltsInside 
       halts_token _ i t.token t.rest (λ u k f to g. halts_then (condition d) _ k
       (λ f2 g2. halts_as (head_goes_on d (λ most. IsCondition most (suc d)) t.token when_made build) (condition_halts d k f2 g2))
       (λ y l f2 read g2.
-        let c = condition_covers d k y l read in
-        halts_behind c.way (halts_then v.nested _ l
-        (λ f3 g3. halts_as (inside_goes_on d (λ most. IsCondition most (suc d)) t.token when_made build c.text y (λ most enough. moved_condition enough c.spelled)) (halts.nested l f3 g3))
-        (λ z m f3 read2 g3. let a = inside.nested l z m read2 in halts_behind (a.covers).way (otherwise_halts t.token c.text y t.is c.spelled a f3 g3)) f2 g2)) f g) e h
+      let c = condition_covers d k y l read in
+      halts_behind c.way (halts_then v.nested _ l
+      (λ f3 g3. halts_as (inside_goes_on d (λ most. IsCondition most (suc d)) t.token when_made build c.text y (λ most enough. moved_condition enough c.spelled)) (halts.nested l f3 g3))
+      (λ z m f3 read2 g3. let a = inside.nested l z m read2 in halts_behind (a.covers).way (otherwise_halts t.token c.text y t.is c.spelled a f3 g3)) f2 g2)) f g) e h

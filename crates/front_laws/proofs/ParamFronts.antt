@@ -1,10 +1,9 @@
 -- What stands before the first fault of the kind of a property or of parameters can go on.
-use Rattle.std.proofs.Common.{◌≡◌, ℕ, ◌≤◌, Bool, true, false, if◌then◌else◌, List, [], ◌∷◌, ◌++◌, Option, Some, None, Result, Ok, Err, inl, inr, refl, sym, ap, subst, ◌∙◌, arith, append_assoc, append-nil}
+use Rattle.std.proofs.Common.{◌≡◌, ℕ, true, false, List, [], ◌∷◌, ◌++◌, Option, Ok, Err, inl, inr, refl, sym, ap, subst, arith, append_assoc, append-nil}
 use Rattle.qml_ast.specs.declared.fault.DocFault.{DocFault}
 use Rattle.qml_ast.specs.declared.param.MethodParam.{MethodParam}
 use Rattle.qml_ast.specs.declared.param.SignalParam.{SignalParam}
-use Rattle.qml_ast.specs.declared.span.Span.{Span}
-use Rattle.qml_grammar.specs.DocumentGrammar.{IsName, IsSignalParam, param, AreSignalParams, one as one_signal, more as more_signal, AreMethodParams, one as one_method, more as more_method, AreMethodParens, none as no_method, some as some_method, AreSignalParens, none as no_signal, some as some_signal}
+use Rattle.qml_grammar.specs.DocumentGrammar.{IsName, IsSignalParam, param, AreSignalParams, one as one_signal, more as more_signal, AreMethodParams, one as one_method, more as more_method, AreMethodParens, none as no_method, some as some_method, AreSignalParens, some as some_signal}
 use Rattle.qml_grammar.specs.Documents.{kind, property_kind, signal_param, more_signal_params, some_signal_params, signal_params, method_param, more_method_params, some_method_params, method_params}
 use Rattle.qml_grammar.specs.ExpressionGrammar.{IsMark}
 use Rattle.qml_grammar.specs.Inputs.{Input, Parser, ahead, after, place, any_name, expect, while_next}
@@ -15,20 +14,19 @@ use Rattle.qml_grammar.specs.declared.word.Word.TheVariants as ww
 use Rattle.grammar_laws.specs.Faults.{IsFaultAt}
 use Rattle.grammar_laws.specs.Laws.{Way}
 use Rattle.grammar_laws.proofs.Local.{before, onward, bind_err}
-use Rattle.grammar_laws.proofs.Tools.{bind_ok, if_ok, ahead_some, way_token, way_then, Named, named, same_value, same_input}
+use Rattle.grammar_laws.proofs.Tools.{bind_ok, if_ok, ahead_some, way_token, way_then, Named, same_value, same_input}
 use Rattle.grammar_laws.proofs.Viable.{name_once}
 use Rattle.statement_laws.specs.Laws.{Covers}
-use Rattle.statement_laws.proofs.Ways.{covers_to}
 use Rattle.document_laws.proofs.Commas.{another, items_until_paren}
 use Rattle.document_laws.proofs.Params.{kind_named, signal_param_covers, IsMethodParam, method, method_param_covers}
-use Rattle.document_laws.proofs.Steps.{Anyhow, placed}
-use Rattle.front_laws.proofs.DocumentSteps.{unsupported_place, never, behind_mark, behind_name, Adding, while_grown, while_halts, Becoming}
+use Rattle.document_laws.proofs.Steps.{Anyhow}
+use Rattle.front_laws.proofs.DocumentSteps.{unsupported_place, never, Adding, while_grown, while_halts, Becoming}
 use Rattle.front_laws.proofs.DocumentTokens.{lower_name, a_lower, lower_is}
-use Rattle.front_laws.proofs.Going.{HaltsOn, Halts, halts_here, halts_as, halts_behind, expect_place, made_err, fills, the_mark, mark_is}
+use Rattle.front_laws.proofs.Going.{HaltsOn, Halts, halts_here, halts_as, halts_behind, halts_expect, expect_place, made_err, fills, the_mark, mark_is}
 
 -- Kinds
 
-pub kind_place : (i : Input) (e : DocFault) → kind i ≡ Err e → IsFaultAt e (place i)
+kind_place : (i : Input) (e : DocFault) → kind i ≡ Err e → IsFaultAt e (place i)
 unfolding kind
 kind_place i e h = elim (if_ok (is_dotted_kind i.rest) _ _ _ h) [
   | inl a ↦ unsupported_place {A = List ℕ} i e a.1
@@ -94,7 +92,7 @@ module _ {A : Type 0} (item : Parser A) (Item : List Token → A → Type 0) (Li
       let o = ahead_some (is_mark Comma) refl i t in
       halts_behind (way_token o.token o.rest) (halts_as (λ ts w. subst (Becoming (UntilClose Listed)) (sym (append_assoc us (o.token ∷ []) ts)) (next_closed us o.token xs p o.is ts w)) (fails (after i) e (made_err item _ (after i) e h)))
 
-  pub items_halt : (i : Input) (e : DocFault) → items_until_paren item Item i ≡ Err e → Halts (Becoming (UntilClose Listed)) i e
+  items_halt : (i : Input) (e : DocFault) → items_until_paren item Item i ≡ Err e → Halts (Becoming (UntilClose Listed)) i e
   items_halt i e h = elim (bind_err (item i) _ _ h) [
     | before g ↦ halts_as first_closed (fails i e g)
     | onward x k g g2 ↦ (
@@ -172,7 +170,7 @@ no_params = no_method (the_mark OpenParen) (the_mark CloseParen) refl refl (mark
 
 pub method_params_halt : (i : Input) (e : DocFault) → method_params i ≡ Err e → Halts (Becoming AreMethodParens) i e
 unfolding method_params
-method_params_halt i e h = behind_mark OpenParen _ i e h (fills empty_parens 200 [] (omega arith) refl no_params) (λ o open_is u k w g. elim (if_ok (is_mark CloseParen (ahead k)) _ _ _ g) [
-  | inl b ↦ never _ _ e b.1
-  | inr b ↦ halts_as (methods_in_parens o open_is) (some_methods_halt k e b.1)
-])
+method_params_halt i e h = halts_expect OpenParen _ i (fills empty_parens 200 [] (omega arith) refl no_params) (λ o u k f open_is w g. elim (if_ok (is_mark CloseParen (ahead k)) _ _ _ g) [
+  | inl b ↦ never _ _ f b.1
+  | inr b ↦ halts_as (methods_in_parens o open_is) (some_methods_halt k f b.1)
+]) e h

@@ -200,5 +200,5 @@ condition_halts d i e h = halts_expect OpenParen _ i (some_condition d)
     (λ o u k f is to g. halts_then (whole d) _ k
     (λ f2 g2. halts_as (λ us w. condition_goes_on d o us is w) (whole_halts d k f2 g2))
     (λ x l f2 read g2.
-      let c = whole_covers d k x l read in
-      halts_behind c.way (halts_here (expect_place CloseParen l f2 (made_err (expect CloseParen) (λ v. x) l f2 g2)) (closed_condition d o c.text (ahead l) x is c.spelled))) f g) e h
+    let c = whole_covers d k x l read in
+    halts_behind c.way (halts_here (expect_place CloseParen l f2 (made_err (expect CloseParen) (λ v. x) l f2 g2)) (closed_condition d o c.text (ahead l) x is c.spelled))) f g) e h

@@ -120,9 +120,9 @@ module _ (d : ℕ) (v : Bodies) (inside : SoundInside d v) (halts : HaltsInside 
       halts_token _ i o.token o.rest (λ u k f to g. halts_then (while_next goes_on_inside (one_more d v) []) _ k
       (λ f2 g2. halts_as (λ us w. block_goes_on d o.token us o.is w) (halts_while (AreStmtsFront d) goes_on_inside (one_more d v) one_more_halts later_halts [] k f2 g2))
       (λ xs l f2 read g2.
-        let c = while_lists (Single (IsStmt 200 d)) goes_on_inside (one_more d v) stmts_begin refl (one_more_adds d v inside) [] k xs l read in
-        let list = c.covers in
-        halts_behind list.way (halts_here (expect_place CloseBrace l f2 (made_err (expect CloseBrace) (λ z. xs) l f2 g2)) (block_closes d o.token list.text (ahead l) c.values o.is (are_stmts list.spelled)))) f g) e h
+      let c = while_lists (Single (IsStmt 200 d)) goes_on_inside (one_more d v) stmts_begin refl (one_more_adds d v inside) [] k xs l read in
+      let list = c.covers in
+      halts_behind list.way (halts_here (expect_place CloseBrace l f2 (made_err (expect CloseBrace) (λ z. xs) l f2 g2)) (block_closes d o.token list.text (ahead l) c.values o.is (are_stmts list.spelled)))) f g) e h
 
 -- All levels
 

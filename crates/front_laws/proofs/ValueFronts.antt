@@ -1,9 +1,8 @@
 -- What stands before the first fault of an object or a value can go on, if what stands in braces can.
-use Rattle.std.proofs.Common.{◌≡◌, ℕ, suc, ◌≤◌, true, false, if◌then◌else◌, List, [], ◌∷◌, ◌++◌, Option, Some, None, Result, Ok, Err, inl, inr, refl, ap, arith}
+use Rattle.std.proofs.Common.{◌≡◌, ℕ, suc, true, List, [], ◌∷◌, ◌++◌, Option, Some, None, Err, inl, inr, refl, ap, arith}
 use Rattle.qml_ast.specs.declared.decl.Decl.{Decl, roll-Decl}
 use Rattle.qml_ast.specs.declared.decl.Init.TheVariants as ii
 use Rattle.qml_ast.specs.declared.decl.Member.{Member}
-use Rattle.qml_ast.specs.declared.expr.Expr.{Expr}
 use Rattle.qml_ast.specs.declared.fault.DocFault.{DocFault}
 use Rattle.qml_grammar.specs.DocumentGrammar.{IsName, IsNoType, IsObject, object, IsValue, expr as an_expr, value_object, AreEntries, no_entries, AreMembers, no_members}
 use Rattle.qml_grammar.specs.Documents.{value_place, Valued, Under, body, object_in, object_value, expr_value, value_in}
@@ -20,8 +19,7 @@ use Rattle.grammar_laws.proofs.Tools.{if_ok, ahead_gives, way_token}
 use Rattle.front_laws.proofs.DocumentSteps.{refused_place, unsupported_place, Onward}
 use Rattle.front_laws.proofs.DocumentTokens.{upper_name, an_upper, in_braces, upper_is}
 use Rattle.front_laws.proofs.Going.{Halts, halts_here, halts_as, halts_behind, made_err, Fills, fills, the_mark, mark_is}
-use Rattle.front_laws.proofs.Moved.{brace_stops}
-use Rattle.front_laws.proofs.MovedDocuments.{brace_no_mark}
+use Rattle.front_laws.proofs.Moved.{brace_tests, brace_stops}
 use Rattle.front_laws.proofs.PartFronts.{Brace}
 use Rattle.front_laws.proofs.StatementFronts.{IsWholeFront, whole_halts, empty_whole}
 
@@ -68,7 +66,7 @@ empty_group d n = fills (in_braces []) 200 [] (omega arith) refl (record { less 
 
 -- Objects
 
-pub some_object : (d : ℕ) → IsObject 200 (suc d) (an_upper ∷ in_braces []) (roll-Decl (record { name = upper_name; members = []; span = an_upper.span }))
+some_object : (d : ℕ) → IsObject 200 (suc d) (an_upper ∷ in_braces []) (roll-Decl (record { name = upper_name; members = []; span = an_upper.span }))
 some_object d = object d an_upper (the_mark OpenBrace) [] (the_mark CloseBrace) upper_name [] refl refl refl upper_is refl (mark_is OpenBrace) (no_members refl refl) (mark_is CloseBrace)
 
 pub missing_object : (d : ℕ) → IsObjectFront d []
@@ -84,7 +82,7 @@ named_object d t n us is up w =
 
 brace_no_type : (ts : List Token) (next : Option Token) → Brace next → IsNoType ts next
 unfolding same_mark mark_number
-brace_no_type ts next b a z names up up_last = brace_no_mark OpenBrace refl next b
+brace_no_type ts next b a z names up up_last = brace_tests (is_mark OpenBrace) (λ s. refl) next b
 
 -- what is not empty
 record First (ts : List Token) : Type 0 where

@@ -1,5 +1,5 @@
 -- What stands before the first fault of a member that begins with a word of its own can go on.
-use Rattle.std.proofs.Common.{◌≡◌, ℕ, suc, ◌≤◌, Bool, true, false, if◌then◌else◌, List, [], ◌∷◌, ◌++◌, Option, Some, None, Result, Ok, Err, inl, inr, refl, sym, ap, ◌∙◌, arith, append_assoc}
+use Rattle.std.proofs.Common.{◌≡◌, ℕ, suc, ◌≤◌, Bool, true, false, List, [], ◌∷◌, ◌++◌, Option, Some, None, Err, inl, inr, refl, sym, ap, ◌∙◌, arith, append_assoc}
 use Rattle.qml_ast.specs.declared.decl.Init.{Init}
 use Rattle.qml_ast.specs.declared.decl.Member.{Member}
 use Rattle.qml_ast.specs.declared.decl.Member.TheVariants as mm
@@ -20,10 +20,10 @@ use Rattle.grammar_laws.proofs.Local.{before, onward, bind_err}
 use Rattle.grammar_laws.proofs.Tools.{if_ok, ahead_some, way_token}
 use Rattle.grammar_laws.proofs.Viable.{name_once}
 use Rattle.document_laws.proofs.Params.{method_params_cover}
-use Rattle.front_laws.proofs.DocumentSteps.{refused_place, never, behind_mark, behind_name, Onward, Becoming, goes_with}
+use Rattle.front_laws.proofs.DocumentSteps.{refused_place, never, Onward, Becoming, goes_with}
 use Rattle.front_laws.proofs.DocumentTokens.{lower_name, a_lower, property_word, in_braces, property_is, lower_is, lower_no_alias}
-use Rattle.front_laws.proofs.Going.{HaltsOn, Halts, halts_here, halts_as, halts_behind, made_err, completes, fills, the_mark, mark_is}
-use Rattle.front_laws.proofs.MovedDocuments.{brace_no_mark}
+use Rattle.front_laws.proofs.Going.{HaltsOn, Halts, halts_here, halts_as, halts_behind, halts_expect, halts_name, made_err, completes, the_mark, mark_is}
+use Rattle.front_laws.proofs.Moved.{brace_tests}
 use Rattle.front_laws.proofs.ParamFronts.{property_kind_place, property_kind_named, SignalParens, signal_params_halt, empty_parens, no_params, method_params_halt}
 use Rattle.front_laws.proofs.StatementFronts.{IsBlockFront, any_block_halts}
 use Rattle.front_laws.proofs.ValueFronts.{IsValueFront, FrontsUnder, value_halts}
@@ -46,8 +46,8 @@ unfolding id_member
 id_halts d i e t h =
     let w = ahead_some (is_word ww.Id) refl i t in
     halts_behind (way_token w.token w.rest)
-    (behind_mark Colon _ (after i) e h (an_id_front d (w.token ∷ []) (the_mark Colon ∷ a_lower ∷ []) w.token (the_mark Colon) a_lower lower_name refl w.is (mark_is Colon) lower_is)
-    (λ o colon u k v g. halts_here (name_once k e (made_err any_name _ k e g)).place (an_id_front d (w.token ∷ o ∷ []) (a_lower ∷ []) w.token o a_lower lower_name refl w.is colon lower_is)))
+    (halts_expect Colon _ (after i) (an_id_front d (w.token ∷ []) (the_mark Colon ∷ a_lower ∷ []) w.token (the_mark Colon) a_lower lower_name refl w.is (mark_is Colon) lower_is)
+    (λ o u k f colon v g. halts_here (name_once k f (made_err any_name _ k f g)).place (an_id_front d (w.token ∷ o ∷ []) (a_lower ∷ []) w.token o a_lower lower_name refl w.is colon lower_is)) e h)
 
 -- Properties
 
@@ -86,7 +86,7 @@ kind_with fixed d ts us t u k n e kind_is no_alias name_is = goes_with us (mm.Pr
   kind_is = kind_is;
   no_alias = no_alias;
   name_is = name_is;
-  spelled = no_value refl refl refl (brace_no_mark Colon refl next b);
+  spelled = no_value refl refl refl (brace_tests (is_mark Colon) (λ s. refl) next b);
 })
 
 -- with the front of one
@@ -117,7 +117,7 @@ fixed_on d r t first_is word_is us w = completes w.others w.most w.value w.enoug
 
 some_fixed : (d : ℕ) (r : Token) → IsWord r ww.ReadOnly → IsShortFront d (r ∷ [])
 unfolding same_mark mark_number
-some_fixed d r first_is = goes_with (property_word ∷ a_lower ∷ a_lower ∷ []) (mm.Property true lower_name lower_name None a_lower.span a_lower.span a_lower.span) refl (λ next b. a_fixed r property_word a_lower a_lower [] lower_name lower_name None a_lower.span refl refl first_is property_is lower_is lower_no_alias lower_is (no_value refl refl refl (brace_no_mark Colon refl next b)))
+some_fixed d r first_is = goes_with (property_word ∷ a_lower ∷ a_lower ∷ []) (mm.Property true lower_name lower_name None a_lower.span a_lower.span a_lower.span) refl (λ next b. a_fixed r property_word a_lower a_lower [] lower_name lower_name None a_lower.span refl refl first_is property_is lower_is lower_no_alias lower_is (no_value refl refl refl (brace_tests (is_mark Colon) (λ s. refl) next b)))
 
 module _ (d : ℕ) (v : Under) (inside : FrontsUnder d v) where
   property_value_halts : (fixed : Bool) (t u : Token) (k n : List ℕ) (at there : Span) (i : Input) (e : DocFault) → IsName t k → is_word ww.Alias (Some t) ≡ false → IsName u n → property_value d v fixed k at n there i ≡ Err e → HaltsOn (IsKindFront fixed d) (t ∷ u ∷ []) i e
@@ -137,8 +137,8 @@ module _ (d : ℕ) (v : Under) (inside : FrontsUnder d v) where
         let a = property_kind_named i k j g in
         let t = a.0 in
         let no_alias : is_word ww.Alias (Some t.token) ≡ false = sym (ap (λ ts. is_word ww.Alias (head ts)) (t.way).rest) ∙ a.1 in
-        halts_behind t.way (behind_name _ j e g2 (kind_with fixed d (t.token ∷ []) (a_lower ∷ []) t.token a_lower k lower_name refl t.is no_alias lower_is)
-        (λ u n is m w f. property_value_halts fixed t.token u k n _ _ m e t.is no_alias is f)))
+        halts_behind t.way (halts_name _ j (kind_with fixed d (t.token ∷ []) (a_lower ∷ []) t.token a_lower k lower_name refl t.is no_alias lower_is)
+        (λ u n m f is w g3. property_value_halts fixed t.token u k n _ _ m f t.is no_alias is g3) e g2))
   ]
 
   pub property_halts : (i : Input) (e : DocFault) → is_word ww.Property (ahead i) ≡ true → property d v false i ≡ Err e → Halts (IsShortFront d) i e
@@ -162,7 +162,7 @@ module _ (d : ℕ) (v : Under) (inside : FrontsUnder d v) where
 
 some_signal : (d : ℕ) (t : Token) → IsWord t ww.Signal → IsShortFront d (t ∷ [])
 unfolding same_mark mark_number
-some_signal d t is = goes_with (a_lower ∷ []) (mm.Signal lower_name [] a_lower.span) refl (λ next b. a_signal t a_lower [] lower_name [] refl refl is lower_is (nothing refl refl (brace_no_mark OpenParen refl next b)))
+some_signal d t is = goes_with (a_lower ∷ []) (mm.Signal lower_name [] a_lower.span) refl (λ next b. a_signal t a_lower [] lower_name [] refl refl is lower_is (nothing refl refl (brace_tests (is_mark OpenParen) (λ s. refl) next b)))
 
 signal_on : (d : ℕ) (t u : Token) (n : List ℕ) → IsWord t ww.Signal → IsName u n → (us : List Token) → Becoming SignalParens us → IsShortFront d (t ∷ u ∷ us)
 signal_on d t u n word_is is us w = goes_with w.others (mm.Signal n w.value u.span) refl (λ next b. a_signal t u (us ++ w.others) n w.value refl refl word_is is (w.spelled next))
@@ -171,8 +171,8 @@ pub signal_halts : (d : ℕ) (i : Input) (e : DocFault) → is_word ww.Signal (a
 unfolding signal_member
 signal_halts d i e t h =
     let w = ahead_some (is_word ww.Signal) refl i t in
-    halts_behind (way_token w.token w.rest) (behind_name _ (after i) e h (some_signal d w.token w.is)
-    (λ u n is k v g. halts_as (signal_on d w.token u n w.is is) (signal_params_halt k e (made_err signal_params _ k e g))))
+    halts_behind (way_token w.token w.rest) (halts_name _ (after i) (some_signal d w.token w.is)
+    (λ u n k f is v g. halts_as (signal_on d w.token u n w.is is) (signal_params_halt k f (made_err signal_params _ k f g))) e h)
 
 -- Methods
 
@@ -202,10 +202,10 @@ pub method_halts : (d : ℕ) (i : Input) (e : DocFault) → is_word ww.Function 
 unfolding method method_behind
 method_halts d i e t h =
     let w = ahead_some (is_word ww.Function) refl i t in
-    halts_behind (way_token w.token w.rest) (behind_name _ (after i) e h (some_method d w.token w.is)
-    (λ u n is k v g. elim (bind_err (method_params k) _ _ g) [
-      | before f ↦ halts_as (params_on d w.token u n w.is is) (method_params_halt k e f)
-      | onward ps l f f2 ↦ (
-          let c = method_params_cover k ps l f in
-          halts_behind c.way (halts_as (block_on d w.token u c.text n ps w.is is c.spelled) (method_block_halts d l e (made_err (method_block d) _ l e f2))))
-    ]))
+    halts_behind (way_token w.token w.rest) (halts_name _ (after i) (some_method d w.token w.is)
+    (λ u n k f is v g. elim (bind_err (method_params k) _ _ g) [
+      | before g2 ↦ halts_as (params_on d w.token u n w.is is) (method_params_halt k f g2)
+      | onward ps l g2 g3 ↦ (
+          let c = method_params_cover k ps l g2 in
+          halts_behind c.way (halts_as (block_on d w.token u c.text n ps w.is is c.spelled) (method_block_halts d l f (made_err (method_block d) _ l f g3))))
+    ]) e h)
