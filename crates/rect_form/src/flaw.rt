@@ -12,7 +12,7 @@ use qml_ast::{Decl, Member, Span};
 pub(crate) fn flaw(decl: &Decl) -> Option<Span>
     ensures { result ≡ flaw_of decl.now }
 {
-    if decl.name.as_bytes() != b"Rectangle".as_slice() {
+    if decl.name.as_str() != "Rectangle" {
         return Some(decl.span);
     }
     flaw_among(decl.members.as_slice())
