@@ -1,5 +1,5 @@
 -- The tokens of a text, one after the other.
-use Rattle.std.specs.Prelude.{◌≡◌, ℕ, ◌<◌, ◌≤◌, ◌^◌, List, [], ◌∷◌, length, slice_range, Option, Some, None, IsUtf8}
+use Rattle.std.specs.Prelude.{◌≡◌, ℕ, ◌<◌, ◌≤◌, ◌^◌, List, [], ◌∷◌, length, slice_range, Option, Some, None, Result, Ok, Err, IsUtf8}
 use Rattle.std.specs.Str.Lossy.{utf8_valid_len}
 use Rattle.qml_lex.specs.Meaning.{IsSpelled}
 use Rattle.qml_lex.specs.Places.{place_of}
@@ -42,6 +42,12 @@ pub record IsNext (bytes : List ℕ) (start stop : ℕ) (token : Token) : Type 0
 abbrev pub HasNext : List ℕ → ℕ → ℕ → Option Token → Type 0
 HasNext bytes start stop None = HasTokens bytes start []
 HasNext bytes start stop (Some token) = IsNext bytes start stop token
+
+-- a scanner that gives no token stays where it was
+abbrev pub StaysWithout : Result (Option Token) DocFault → Scanner → Scanner → Type 0
+StaysWithout (Ok (Some token)) was is = Unit {0}
+StaysWithout (Ok None) was is = is ≡ was
+StaysWithout (Err fault) was is = is ≡ was
 
 -- what stands behind this offset has this fault
 abbrev pub IsBadFrom : List ℕ → ℕ → DocFault → Type 0

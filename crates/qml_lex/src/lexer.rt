@@ -1,7 +1,7 @@
 ghost use Rattle.std.specs.Prelude.{◌≡◌, ◌^◌, ◌≤◌, length, slice_range, All, IfOk, IfErr, MatchResult};
 ghost use Rattle.qml_lex.specs.Meaning.{IsSpelled};
 ghost use Rattle.qml_lex.specs.Reading.{IsReadAs, IsRefused, first_offset};
-ghost use Rattle.qml_lex.specs.Scanning.{Stands, Begins, IsNotUtf8, HasNext, IsBadFrom};
+ghost use Rattle.qml_lex.specs.Scanning.{Stands, Begins, IsNotUtf8, HasNext, IsBadFrom, StaysWithout};
 
 use crate::piece::{Piece, first_piece};
 use crate::place::advance;
@@ -43,7 +43,8 @@ impl<'a> Scanner<'a> {
         }
     }
 
-    /// The next token, past blanks and comments; goes behind it. None where the text has no more.
+    /// The next token, past blanks and comments; goes behind it. None where the text has no more. Without a
+    /// token the scanner stays where it was.
     ///
     /// The fault is BadToken at the first byte where no token, blank or comment begins, or where one begins
     /// that has no end or is too long.
@@ -53,6 +54,7 @@ impl<'a> Scanner<'a> {
         ensures stands { Stands self.new }
         ensures next { IfOk result (HasNext self.old.bytes.now self.old.at self.new.at) }
         ensures bad { IfErr result (IsBadFrom self.old.bytes.now self.old.at) }
+        ensures stays { StaysWithout result self.old self.new }
     {
         let bytes = self.bytes;
         let mut at = self.at;

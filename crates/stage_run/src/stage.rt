@@ -28,7 +28,7 @@ pub struct Outcome<F, S, N> {
 ///
 /// The first of these that fails gives the status: the words; the fetch of the script, of at most 4 MiB;
 /// its lines; the fetch of the document, of at most 1 MiB; its form; each frame's write. `NoMemory` may
-/// stand in place of any but `Usage`.
+/// stand in place of any but `Usage`. The counts of failed reads and writes never fall.
 pub fn run<F: Files, S: Sink, N: Sink>(
     alloc: Global,
     words: &Words,
@@ -38,6 +38,8 @@ pub fn run<F: Files, S: Sink, N: Sink>(
 ) -> Outcome<F, S, N>
     ensures files { F.held result.files ≡ F.held files }
     ensures notes { result.notes ≡ notes }
+    ensures reads { F.faults files ≤ F.faults result.files }
+    ensures writes { S.faults frames ≤ S.faults result.frames }
     ensures cause { HasCause (run_of words.now (F.held files)
         (F.faults files) (F.faults result.files) (S.faults frames) (S.faults result.frames)
         (S.contents frames) (S.contents result.frames) result.journal) result.status }
@@ -70,6 +72,8 @@ fn play<F: Files, S: Sink>(
 ) -> Status
     requires { journal.old ≡ [] }
     ensures files { F.held files.new ≡ F.held files.old }
+    ensures reads { F.faults files.old ≤ F.faults files.new }
+    ensures writes { S.faults frames.old ≤ S.faults frames.new }
     ensures cause { HasCause (run_of words.now (F.held files.old)
         (F.faults files.old) (F.faults files.new) (S.faults frames.old) (S.faults frames.new)
         (S.contents frames.old) (S.contents frames.new) journal.new) result }
@@ -94,6 +98,8 @@ fn perform<F: Files, S: Sink>(
     requires lawful { AreLawful words.now }
     requires empty { journal.old ≡ [] }
     ensures files { F.held files.new ≡ F.held files.old }
+    ensures reads { F.faults files.old ≤ F.faults files.new }
+    ensures writes { S.faults frames.old ≤ S.faults frames.new }
     ensures done { OnOk result (Ends (run_of words.now (F.held files.old)
         (F.faults files.old) (F.faults files.new) (S.faults frames.old) (S.faults frames.new)
         (S.contents frames.old) (S.contents frames.new) journal.new) statuses.Done) }

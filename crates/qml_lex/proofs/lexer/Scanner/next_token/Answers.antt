@@ -14,6 +14,9 @@ returns-in-End-clause-stands c = stands_still _ _ c.loop-len.invariant.unmoved c
 pub returns-in-End-clause-next : goal.returns-in-End-clause-next
 returns-in-End-clause-next c = next_none _ _ _ c.loop-len.invariant.read c.in-End.ensures.value
 
+pub returns-in-End-clause-stays : goal.returns-in-End-clause-stays
+returns-in-End-clause-stays c = c.loop-len.invariant.unmoved
+
 -- At what is no token
 
 pub returns-in-Bad-clause-text : goal.returns-in-Bad-clause-text
@@ -24,6 +27,9 @@ returns-in-Bad-clause-stands c = stands_still _ _ c.loop-len.invariant.unmoved c
 
 pub returns-in-Bad-clause-bad : goal.returns-in-Bad-clause-bad
 returns-in-Bad-clause-bad c = bad_here _ _ _ _ c.loop-len.invariant.bad c.in-Bad.ensures.value c.loop-len.invariant.place
+
+pub returns-in-Bad-clause-stays : goal.returns-in-Bad-clause-stays
+returns-in-Bad-clause-stays c = c.loop-len.invariant.unmoved
 
 -- Past a blank
 
