@@ -4,7 +4,6 @@
 //! it holds.
 #![tactic(auto)]
 
-pub mod alike;
 pub mod arithmetic;
 pub mod decl;
 pub mod document;
@@ -21,7 +20,6 @@ pub mod text;
 pub mod text_form;
 pub mod value;
 
-pub use alike::is_alike;
 pub use arithmetic::{add, div, mul, rem, sub, truth};
 pub use decl::{Decl, Init, Member};
 pub use document::{Document, Import};
@@ -37,6 +35,3 @@ pub use stmt::{AssignOp, LocalWord, Stmt};
 pub use text::Text;
 pub use text_form::to_text;
 pub use value::{Edge, LineRef, Value, equal};
-
-#[cfg(test)]
-mod tests;

@@ -4,7 +4,7 @@ use crate::name::Name;
 use std::alloc::{AllocError, Global};
 
 /// One name, or two with a dot between them.
-#[derive(Debug, Drop)]
+#[derive(Drop)]
 pub struct Path {
     pub first: Name,
     pub second: Option<Name>,

@@ -1,5 +1,5 @@
 /// Which of a slot's two values is meant.
-#[derive(Clone, Copy, Debug, PartialEq, Eq)]
+#[derive(Clone, Copy, Debug, PartialEq, Eq, PartialOrd, Ord, Hash)]
 pub enum Side {
     /// What the slot was set to.
     Set,
@@ -7,8 +7,9 @@ pub enum Side {
     Shown,
 }
 
-/// One side of one slot of an object.
-#[derive(Clone, Copy, Debug, PartialEq, Eq)]
+/// One side of one slot of an object. Places are in the order of their objects, then of their slots, and
+/// what is set comes before what is shown.
+#[derive(Clone, Copy, Debug, PartialEq, Eq, PartialOrd, Ord, Hash)]
 pub struct Place {
     /// The object's serial.
     pub serial: u64,

@@ -27,7 +27,7 @@ pub struct LineRef {
 }
 
 /// What an expression gives and a slot holds.
-#[derive(Debug, Drop)]
+#[derive(Drop)]
 pub enum Value {
     Int(i32),
     Bool(bool),

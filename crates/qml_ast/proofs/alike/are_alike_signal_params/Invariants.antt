@@ -1,6 +1,0 @@
-use Rattle.std.proofs.Common.{◌≡◌, take, map}
-use Rattle.qml_ast.specs.Alike.{signal_param_apart}
-use Rattle.qml_ast.proofs.alike.are_alike_signal_params.Given as goal
-
-abbrev pub invariant-loop-i : goal.invariant-loop-i
-invariant-loop-i l = map signal_param_apart (take l.i l.params) ≡ map signal_param_apart (take l.i l.others)

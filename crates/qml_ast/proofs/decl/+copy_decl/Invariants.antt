@@ -1,5 +1,0 @@
-use Rattle.std.proofs.Common.{◌≡◌, take}
-use Rattle.qml_ast.proofs.decl.+copy_decl.Given as goal
-
-abbrev pub invariant-copy_members-loop-member : goal.invariant-copy_members-loop-member
-invariant-copy_members-loop-member l = l.copied ≡ take l.member-index l.members
