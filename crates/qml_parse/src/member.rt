@@ -13,6 +13,7 @@ use qml_ast::{DocFault, Init, Member, Name, Path, Span};
 use qml_expr::Cursor;
 use qml_grammar::{Mark, Word};
 use qml_stmt::{end, statement};
+use shared_value::Shared;
 use sqlite_items::{Boxed, Items};
 use std::alloc::{AllocError, Global};
 
@@ -98,14 +99,8 @@ pub(crate) fn handled(
     ensures { IsReading (spec.handled levels path span (input_of cursor.old)) result (input_of cursor.new) }
 {
     let body = statement(alloc, levels, cursor)?;
-    Ok(Boxed::new(
-        alloc,
-        Member::Handler {
-            path,
-            body: body.into_inner(),
-            span,
-        },
-    )?)
+    let body = Shared::new(alloc, body)?;
+    Ok(Boxed::new(alloc, Member::Handler { path, body, span })?)
 }
 
 /// What a property declares before its value.

@@ -10,6 +10,7 @@ use qml_ast::{DocFault, Member, MethodParam, Name, Span, Stmt};
 use qml_expr::Cursor;
 use qml_grammar::Mark;
 use qml_stmt::block;
+use shared_value::Shared;
 use sqlite_items::{Boxed, Items};
 use std::alloc::Global;
 
@@ -108,6 +109,7 @@ fn behind_name(
 {
     let params = params(alloc, cursor)?;
     let body = body(alloc, levels, cursor)?;
+    let body = Shared::new(alloc, body)?;
     Ok(Boxed::new(
         alloc,
         Member::Method {

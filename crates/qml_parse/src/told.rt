@@ -87,12 +87,12 @@ fn told_callable(alloc: Global, member: &Member) -> Result<String, AllocError> {
         } => {
             let name = told_at(alloc, name.as_str(), *span)?;
             let params = told_method_params(alloc, params.as_slice())?;
-            let statements = body.len();
+            let statements = body.get().len();
             format!(in alloc; "method {name}{params} of {statements}")
         }
         Member::Handler { path, body, span } => {
             let path = told_path(alloc, path, *span)?;
-            let body = told_stmt(body);
+            let body = told_stmt(body.get().get());
             format!(in alloc; "{path} does {body}")
         }
         _ => String::from_str(alloc, "member"),
@@ -105,7 +105,7 @@ fn told_callable(alloc: Global, member: &Member) -> Result<String, AllocError> {
 #[cycle(told)]
 fn told_init(alloc: Global, init: &Init, at: Span) -> Result<String, AllocError> {
     let value = match init {
-        Init::Expr(expr) => told_expr(alloc, expr)?,
+        Init::Expr(expr) => told_expr(alloc, expr.get())?,
         Init::Object(object) => told_decl(alloc, object.get())?,
     };
     told_at(alloc, value.as_str(), at)

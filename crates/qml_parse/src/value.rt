@@ -6,11 +6,12 @@ ghost use Rattle.qml_parse.specs.Values.{IsReadingValue};
 use qml_ast::{DocFault, Expr, Init, Span};
 use qml_expr::{Cursor, Token, whole_expression};
 use qml_grammar::Mark;
+use shared_value::Shared;
 use sqlite_items::Boxed;
 use std::alloc::Global;
 
 /// An initialiser's value and its place.
-#[derive(Debug, Drop)]
+#[derive(Drop)]
 pub(crate) struct Valued {
     pub init: Boxed<Init>,
     /// The place of a literal, inside its parentheses, and else of the value's first token.
@@ -72,6 +73,7 @@ pub(crate) fn expr_value(
     let last = cursor.end;
     let value = whole_expression(alloc, levels, cursor)?;
     let span = value_place(value.get(), before, last);
-    let init = Boxed::new(alloc, Init::Expr(value.into_inner()))?;
+    let value = Shared::new(alloc, value.into_inner())?;
+    let init = Boxed::new(alloc, Init::Expr(value))?;
     Ok(Valued { init, span })
 }

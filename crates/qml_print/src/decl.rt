@@ -130,7 +130,7 @@ fn write_init(init: &Init, levels: usize, out: &mut Sheet) -> Result<(), AllocEr
     ensures { IfOk result (λ _. out.new ≡ out.old ++ init_text init.now levels) }
 {
     match init {
-        Init::Expr(expr) => write_expr(expr, LOOSEST, out),
+        Init::Expr(expr) => write_expr(expr.get(), LOOSEST, out),
         Init::Object(object) => write_decl(object.get(), levels, out),
     }
 }
@@ -182,7 +182,7 @@ fn write_member(member: &Member, levels: usize, out: &mut Sheet) -> Result<(), A
         Member::Handler { path, body, .. } => {
             write_path(path, out)?;
             out.put(b": ")?;
-            write_stmt(body, levels, out)
+            write_stmt(body.get().get(), levels, out)
         }
         Member::Method {
             name,
@@ -193,7 +193,7 @@ fn write_member(member: &Member, levels: usize, out: &mut Sheet) -> Result<(), A
             out.put(b"function ")?;
             out.put(name.as_bytes())?;
             write_method_params(params.as_slice(), out)?;
-            write_block(body.as_slice(), levels, out)
+            write_block(body.get().as_slice(), levels, out)
         }
         Member::Child(child) => write_decl(child, levels, out),
     }

@@ -130,8 +130,11 @@ fn initialiser_setting(path: &Path, init: &Init) -> Option<Setting>
     if path.second.is_some() {
         return None;
     }
-    match init {
-        Init::Expr(Expr::Lit(value)) => literal_setting(path.first.as_str(), value),
+    let Init::Expr(expr) = init else {
+        return None;
+    };
+    match expr.get() {
+        Expr::Lit(value) => literal_setting(path.first.as_str(), value),
         _ => None,
     }
 }
