@@ -1,6 +1,7 @@
 #!/usr/bin/env bash
-# Times one tick of many timers: starts 100, 1,000 and 10,000 repeating timers, takes 100,000 firings in
-# order, and prints the time that a start and a firing take. Builds the program in a temporary folder.
+# Times many timers: starts 2, 100, 1,000 and 10,000 repeating timers, starts one of them again 100,000
+# times, due after all others, takes 100,000 firings in order, and prints the time that a start, a restart
+# and a firing take. Builds the program in a temporary folder.
 #
 # usage: bench/timers.sh
 set -euo pipefail
@@ -13,7 +14,7 @@ cp "$top/HANDLES" "$folder/HANDLES"
 printf 'timers:\ntick: timers\n' > "$folder/crates.txt"
 : > "$folder/crates/tick/specs/Lib.antt"
 cat > "$folder/crates/tick/src/main.rt" <<'PROGRAM'
-//! Times the firings of one tick.
+//! Times starts, restarts, and the firings of one tick.
 #![tactic(auto)]
 
 use std::alloc::Global;
@@ -23,9 +24,18 @@ use timers::Timers;
 
 const FIRINGS: u32 = 100_000;
 
+const RESTARTS: u32 = 100_000;
+
 fn start_all(timers: &mut Timers, count: u32) -> io::Result<()> {
     for i in 0..count {
         timers.start(u64::from(i), 10 + i % 50, i % 4 == 0)?;
+    }
+    Ok(())
+}
+
+fn restart(timers: &mut Timers, serial: u64) -> io::Result<()> {
+    for i in 0..RESTARTS {
+        timers.start(serial, 1000 + i % 50, false)?;
     }
     Ok(())
 }
@@ -48,17 +58,21 @@ fn measure(rt: &(impl Print + Clock), alloc: Global, count: u32) -> io::Result<(
     start_all(&mut timers, count)?;
     let starts = began.elapsed(rt)?.as_nanos();
     let began = Instant::now(rt)?;
+    restart(&mut timers, 0)?;
+    let restarts = began.elapsed(rt)?.as_nanos();
+    timers.start(0, 10, false)?;
+    let began = Instant::now(rt)?;
     let left = fire_all(&mut timers, u32::MAX);
     let firings = began.elapsed(rt)?.as_nanos();
     println!(rt;
-        "{count} timers {starts} {firings} {left} {}",
+        "{count} timers {starts} {restarts} {firings} {left} {}",
         timers.now()
     )?;
     Ok(())
 }
 
 fn main(rt: HostRuntime) -> io::Result<()> {
-    for count in [100, 1_000, 10_000] {
+    for count in [2, 100, 1_000, 10_000] {
         measure(&rt, rt.alloc(), count)?;
     }
     Ok(())
@@ -66,4 +80,4 @@ fn main(rt: HostRuntime) -> io::Result<()> {
 PROGRAM
 cd "$folder/crates/tick"
 rt run > "$folder/log" 2>&1 || { cat "$folder/log"; exit 1; }
-awk '$2 == "timers" && $5 == 0 { printf "%d timers: %.0f ns a start, %.0f ns a firing\n", $1, $3 / $1, $4 / 100000 }' "$folder/log"
+awk '$2 == "timers" && $6 == 0 { printf "%d timers: %.0f ns a start, %.0f ns a restart, %.0f ns a firing\n", $1, $3 / $1, $4 / 100000, $5 / 100000 }' "$folder/log"

@@ -5,7 +5,7 @@ ghost use Rattle.input_grab.specs.Area.{is_within, has_point, topmost, IsTopmost
 /// A rectangle of pixels that takes the pointer, as far as it can be seen. It has the columns from
 /// `left` up to but not `right`, and the rows from `top` up to but not `bottom`; with none of either it
 /// is empty.
-#[derive(Clone, Copy, Debug, PartialEq, Eq)]
+#[derive(Clone, Copy, PartialEq, Eq)]
 pub struct Area {
     /// Whose area it is.
     pub serial: u64,

@@ -5,7 +5,7 @@ use std::marker::Model;
 
 /// The press of a pointer: the serial of the area that holds it, if one does. Contracts see it as that
 /// serial.
-#[derive(Clone, Copy, Debug, Default, PartialEq, Eq)]
+#[derive(Clone, Copy, Default, PartialEq, Eq)]
 pub struct Grab {
     held: Option<u64>,
 }

@@ -3,8 +3,6 @@
 
 pub mod area;
 pub mod grab;
-#[cfg(test)]
-mod tests;
 
 pub use area::{Area, hit};
 pub use grab::Grab;

@@ -3,8 +3,6 @@
 
 pub mod layouts;
 pub mod rounds;
-#[cfg(test)]
-mod tests;
 mod waiting;
 
 pub use layouts::Layouts;

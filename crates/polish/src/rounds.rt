@@ -6,7 +6,7 @@ use crate::waiting::Waiting;
 use std::alloc::{AllocError, Global};
 
 /// How the rounds of a polish ended.
-#[derive(Clone, Copy, Debug, PartialEq, Eq)]
+#[derive(Clone, Copy, PartialEq, Eq)]
 pub enum Rounds {
     /// After so many rounds, of which the last changed nothing, and each before it something.
     Still(u32),

@@ -5,7 +5,5 @@ mod axis;
 mod lengths;
 mod offsets;
 pub mod positioner;
-#[cfg(test)]
-mod tests;
 
 pub use positioner::{column, row};

@@ -1,5 +1,5 @@
 -- What holds of the parts of `Timers` as the timers change.
-use Rattle.std.proofs.Common.{◌≡◌, ℕ, ◌^◌, ◌<◌, Bool, true, false, List, [], ◌∷◌, ◌++◌, Option, None, Some, IfSome, refl, ap, sym, subst, ◌∙◌, arith, ⊎_elim}
+use Rattle.std.proofs.Common.{◌≡◌, ℕ, ◌^◌, ◌<◌, Bool, true, false, List, [], ◌∷◌, ◌++◌, length, Option, None, Some, IfSome, refl, ap, sym, subst, ◌∙◌, arith, ⊎_elim}
 use Rattle.std.specs.Option.{option_map}
 use Rattle.std.specs.List.{Contains}
 use Rattle.std.specs.Ordering.{nat_cmp}
@@ -146,6 +146,7 @@ sound-new timers queue serials e empty =
         queued = λ q time next. absurd (let gone : ◌≡◌ {A = Option ℕ} None (Some time) = ap (option_map first_time) (sym (none q)) ∙ next in cc);
         begins = subst (BeginsLive timers.timers) (sym empty) tt;
         room = let few : timers.count ≡ 0 = ap (λ (s : Stored). s.count) e in omega arith;
+        few = let none-queued : length queue.firings ≡ 0 = ap length empty in omega arith;
       };
       waiting = λ q w. absurd (false≢true (ap is_waiting (sym (none q)) ∙ w));
     }

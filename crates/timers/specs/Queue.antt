@@ -1,5 +1,5 @@
 -- The queue of firings, and what it has to do with the timers.
-use Rattle.std.specs.Prelude.{◌≡◌, ◌≢◌, ℕ, ◌≤◌, Bool, true, false, Option, None, Some, IfSome, List, [], ◌∷◌, Contains, IsPermutation, refl}
+use Rattle.std.specs.Prelude.{◌≡◌, ◌≢◌, ℕ, ◌+◌, ◌*◌, ◌≤◌, Bool, true, false, Option, None, Some, IfSome, List, [], ◌∷◌, length, Contains, IsPermutation, refl}
 use Rattle.std.specs.Ordering.{nat_cmp, ordering_then}
 use Rattle.std.specs.declared.cmp.Ordering.{Ordering}
 use Rattle.std.specs.declared.cmp.Reverse.{Reverse}
@@ -83,11 +83,17 @@ ListsWaiting timers serials = (serial : ℕ) → is_waiting (map.get timers seri
 abbrev pub AreWithinBounds : Running → Type 0
 AreWithinBounds timers = (serial : ℕ) → IfSome (map.get timers serial) IsWithinBounds
 
--- the queue serves the timers: their first firings are in it, and its own first one is one of them
+-- the most firings that are kept for so many timers
+abbrev pub most_firings : ℕ → ℕ
+most_firings timers = 2 * timers + 32
+
+-- the queue serves the timers: their first firings are in it, its own first one is one of them, and not
+-- too many others are there
 pub record Serves (timers : Stored) (queue : Queued) : Type 0 where
   pub queued : IsQueued timers.timers queue.firings
   pub begins : BeginsLive timers.timers queue.firings
   pub room : timers.count ≤ queue.room
+  pub few : length queue.firings ≤ most_firings timers.count
 
 -- the firing at the start of the serial's timer waits no longer, and nothing else has changed
 pub record IsReleasedAt (old : Running) (serial : ℕ) (new : Running) : Type 0 where

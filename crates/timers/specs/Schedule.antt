@@ -1,5 +1,5 @@
 -- Timers by serial, and what each call makes of them.
-use Rattle.std.specs.Prelude.{◌≡◌, ℕ, ◌+◌, ◌<◌, ◌≤◌, max, Bool, true, if◌then◌else◌, Option, None, Some, IfSome, ◌⊎◌, refl}
+use Rattle.std.specs.Prelude.{◌≡◌, ℕ, ◌+◌, ◌<◌, ◌≤◌, max, Bool, true, ◌&&◌, ◌||◌, nat_eq, nat_lt, nat_le, if◌then◌else◌, Option, None, Some, IfSome, List, [], ◌∷◌, ◌⊎◌, refl}
 use Rattle.std.specs.Option.{option_map}
 use Rattle.std.specs.Ordering.{nat_cmp}
 use Rattle.std.specs.FinMap as map
@@ -86,6 +86,32 @@ pub record IsFirstDue (running : Running) (until : ℕ) (firing : ℕ × ℕ) : 
 -- no timer fires by until
 abbrev pub IsNoneDue : Running → ℕ → Type 0
 IsNoneDue running until = (serial : ℕ) → IfSome (next_time running serial) (λ time. until < time)
+
+-- ---- the first firing, timer by timer
+-- a time with a serial comes before the other one, or is the same
+abbrev pub is_not_after : ℕ × ℕ → ℕ × ℕ → Bool
+is_not_after a b = nat_lt a.0 b.0 || (nat_eq a.0 b.0 && nat_le a.1 b.1)
+
+-- the first of two firings of which each may be missing
+abbrev pub first_of_two : Option (ℕ × ℕ) → Option (ℕ × ℕ) → Option (ℕ × ℕ)
+first_of_two None b = b
+first_of_two (Some a) None = Some a
+first_of_two (Some a) (Some b) = if is_not_after a b then Some a else Some b
+
+-- a firing at this time, if there is one and it is due by until
+abbrev pub due_by : ℕ → ℕ → Option ℕ → Option (ℕ × ℕ)
+due_by until serial None = None
+due_by until serial (Some time) = if nat_le time until then Some (time, serial) else None
+
+-- the first firing by until of the timers of these serials
+abbrev pub first_among : Running → ℕ → List ℕ → Option (ℕ × ℕ)
+first_among running until [] = None
+first_among running until (serial ∷ rest) =
+    first_of_two (due_by until serial (next_time running serial)) (first_among running until rest)
+
+-- the first firing by until, the least by time and then by serial
+unfoldable pub first_due : Running → ℕ → Option (ℕ × ℕ)
+first_due running until = first_among running until (map.keys running)
 
 abbrev start_code : Coded StartFiring
 start_code =

@@ -1,11 +1,15 @@
-ghost use Rattle.std.specs.Prelude.{◌≡◌, ℕ, ◌+◌, ◌<◌, ◌≤◌, [], ◌∷◌, length, nat_le, OnOk, IfSome, All, IsPermutation};
+ghost use Rattle.std.specs.Prelude.{◌≡◌, ℕ, ◌+◌, ◌^◌, ◌<◌, ◌≤◌, [], ◌∷◌, length, nat_le, OnOk, IfSome, All, IsPermutation};
+ghost use Rattle.std.specs.Bool.{OnFalse};
 ghost use Rattle.timers.specs.Schedule.{IsNotAfter};
-ghost use Rattle.timers.specs.Queue.{firing, first_of, LosesFirst};
+ghost use Rattle.timers.specs.Queue.{firing, first_of, most_firings, LosesFirst};
 
 use std::alloc::{AllocError, Global};
 use std::cmp::Reverse;
 use std::collections::BinaryHeap;
 use std::marker::Model;
+
+// Half of the stale firings that a queue may have beside one for each timer and its number of timers.
+const SPARE: usize = 16;
 
 // Firings, each a time in milliseconds and a serial, of which the least pair comes first.
 #[derive(Drop)]
@@ -35,13 +39,27 @@ impl FiringQueue {
         }
     }
 
-    // Makes room for that many further firings. The only error is that memory ran out.
-    pub(crate) fn reserve(&mut self, additional: usize) -> Result<(), AllocError>
+    // Makes room for the firings of so many timers and one more, and mostly for as many stale ones. The
+    // only error is that memory ran out.
+    pub(crate) fn make_room(&mut self, timers: usize) -> Result<(), AllocError>
+        requires { timers < 2 ^ 63 }
         ensures firings { self.new.firings ≡ self.old.firings }
         ensures more { self.old.room ≤ self.new.room }
-        ensures ok { OnOk result (length self.new.firings + additional ≤ self.new.room) }
+        ensures ok { OnOk result (timers + 1 ≤ self.new.room) }
     {
-        self.heap.reserve(additional)
+        if self.heap.capacity() / 2 < timers + SPARE {
+            self.heap.reserve(timers + SPARE)?;
+        }
+        Ok(())
+    }
+
+    // It has at least twice as many firings as there are timers, and some more, so that most of them are
+    // stale.
+    pub(crate) fn is_crowded(&self, timers: usize) -> bool
+        requires { timers < 2 ^ 63 }
+        ensures { OnFalse result (length self.now.firings ≤ most_firings timers) }
+    {
+        self.heap.len() / 2 >= timers + SPARE
     }
 
     // There is no room for another one.

@@ -5,8 +5,6 @@
 mod firing_queue;
 mod running_timers;
 pub mod schedule;
-#[cfg(test)]
-mod tests;
 pub mod timer;
 
 pub use schedule::Timers;

@@ -1,4 +1,4 @@
-ghost use Rattle.std.specs.Prelude.{◌≡◌, ℕ, ◌+◌, ◌^◌, ◌<◌, ◌≤◌, OnOk, OnErr, IsSome};
+ghost use Rattle.std.specs.Prelude.{◌≡◌, ℕ, ◌+◌, ◌^◌, ◌<◌, ◌≤◌, length, OnOk, OnErr, IsSome};
 ghost use Rattle.std.specs.FinMap as map;
 ghost use Rattle.timers.specs.Schedule.{next_time};
 ghost use Rattle.timers.specs.Queue.{IsQueued};
@@ -99,6 +99,7 @@ impl RunningTimers {
     pub(crate) fn refill(&self, queue: &mut FiringQueue)
         requires { self.now.count ≤ queue.old.room }
         ensures queued { IsQueued self.now.timers queue.new.firings }
+        ensures few { length queue.new.firings ≤ self.now.count }
         ensures room { queue.old.room ≤ queue.new.room }
     {
         queue.clear();

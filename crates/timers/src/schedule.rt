@@ -1,9 +1,9 @@
-ghost use Rattle.std.specs.Prelude.{◌≡◌, ◌≢◌, ℕ, ◌+◌, ◌^◌, ◌<◌, ◌≤◌, true, false, Some, [], ◌∷◌, OnOk, OnErr, IsSome, IsSomeAnd, IfSome, IfNone, IfOk, Contains};
+ghost use Rattle.std.specs.Prelude.{◌≡◌, ◌≢◌, ℕ, ◌+◌, ◌^◌, ◌<◌, ◌≤◌, true, false, Some, [], ◌∷◌, length, OnOk, OnErr, IsSome, IsSomeAnd, IfSome, IfNone, IfOk, Contains};
 ghost use Rattle.std.specs.Bool.{OnTrue, OnFalse};
 ghost use Rattle.std.specs.Option.{option_map, option_or};
 ghost use Rattle.std.specs.FinMap as map;
 ghost use Rattle.timers.specs.Timer.{first_time, released, start_waits, IsStartInTime, IsWithinBounds};
-ghost use Rattle.timers.specs.Schedule.{next_time, start_kept, started, after_fired, after_skip, IsFirstDue, IsNoneDue};
+ghost use Rattle.timers.specs.Schedule.{next_time, start_kept, started, after_fired, after_skip, first_due, IsFirstDue, IsNoneDue};
 ghost use Rattle.timers.specs.Queue.{firing, first_of, IsQueued, BeginsLive, BeginsStale, ListsWaiting, AreWithinBounds, IsReleasedAt, IsReleased, Serves};
 
 use crate::firing_queue::FiringQueue;
@@ -96,12 +96,20 @@ impl Timers {
         discard(&mut self.timers, &mut self.queue, serial);
     }
 
+    /// The timer of that serial runs.
+    pub fn is_running(&self, serial: u64) -> bool
+        ensures { result ≡ map.contains_key self.now.running serial }
+    {
+        self.timers.get(serial).is_some()
+    }
+
     /// The time and the serial of the first timer that is due by `until`: the one that fires at the
     /// earliest time, and of several the one of the least serial. A firing at the start counts unless
     /// it waits for the next `advance`. `None` where no timer is due by then.
     pub fn due(&self, until: u64) -> Option<(u64, u64)>
         ensures found { IfSome result (λ first. IsFirstDue self.now.running until first) }
         ensures none { IfNone result (IsNoneDue self.now.running until) }
+        ensures least { result ≡ first_due self.now.running until }
     {
         match self.queue.first() {
             Some((time, serial)) if time <= until => Some((time, serial)),
@@ -211,11 +219,25 @@ fn drop_stale(timers: &RunningTimers, queue: &mut FiringQueue)
     requires { IsQueued timers.now.timers queue.old.firings }
     ensures queued { IsQueued timers.now.timers queue.new.firings }
     ensures live { BeginsLive timers.now.timers queue.new.firings }
+    ensures few { length queue.new.firings ≤ length queue.old.firings }
     ensures room { queue.new.room ≡ queue.old.room }
 {
     while begins_stale(timers, queue) {
         queue.pop();
     }
+}
+
+// Makes the queue, which has the first firing of each timer, serve the timers: where stale ones crowd it,
+// it is filled anew.
+fn tidy(timers: &RunningTimers, queue: &mut FiringQueue)
+    requires queued { IsQueued timers.now.timers queue.old.firings }
+    requires room { timers.now.count ≤ queue.old.room }
+    ensures { Serves timers.now queue.new }
+{
+    if queue.is_crowded(timers.len()) {
+        timers.refill(queue);
+    }
+    drop_stale(timers, queue);
 }
 
 // Puts the first firing of the serial's timer into the queue, which has those of the others. Where the
@@ -246,10 +268,10 @@ fn add(
     ensures err { OnErr result (timers.new ≡ timers.old) }
     ensures serves { Serves timers.new queue.new }
 {
-    queue.reserve(timers.len() + 1)?;
+    queue.make_room(timers.len())?;
     timers.insert(serial, timer)?;
     enqueue(timers, queue, timer.first_time(), serial);
-    drop_stale(timers, queue);
+    tidy(timers, queue);
     Ok(())
 }
 
@@ -262,7 +284,7 @@ fn change(timers: &mut RunningTimers, queue: &mut FiringQueue, serial: u64, time
 {
     timers.replace(serial, timer);
     enqueue(timers, queue, timer.first_time(), serial);
-    drop_stale(timers, queue);
+    tidy(timers, queue);
 }
 
 // Removes the timer of the serial, if it runs.
@@ -272,7 +294,7 @@ fn discard(timers: &mut RunningTimers, queue: &mut FiringQueue, serial: u64)
     ensures serves { Serves timers.new queue.new }
 {
     timers.remove(serial);
-    drop_stale(timers, queue);
+    tidy(timers, queue);
 }
 
 // The firing at the start of the serial's timer waits no longer, if there is one.

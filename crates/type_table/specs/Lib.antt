@@ -1,2 +1,4 @@
 pub mod Names
 pub mod Slots
+pub mod Order
+pub mod ItemSlots

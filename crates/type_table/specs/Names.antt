@@ -31,6 +31,11 @@ signals Timer = codes "triggered" ∷ []
 signals Loader = codes "loaded" ∷ []
 signals _ = []
 
+-- how many arguments each signal of a type has: those of the mouse area's are x and y of the mouse
+abbrev pub signal_args : BuiltIn → ℕ
+signal_args MouseArea = 2
+signal_args t = 0
+
 -- the methods of a type, in order
 abbrev pub methods : BuiltIn → List (List ℕ)
 methods Timer = codes "start" ∷ codes "stop" ∷ codes "restart" ∷ []

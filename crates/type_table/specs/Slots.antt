@@ -1,6 +1,6 @@
 -- The slots of the built-in types, as the manual lists them: those of the type that it is based on, and
 -- then its own.
-use Rattle.std.specs.Prelude.{ℕ, Bool, true, false, ◌&&◌, ◌||◌, not, ◌+◌, pos, nat_eq, if◌then◌else◌, Option, Some, List, [], ◌∷◌, ◌++◌, map, position, codes}
+use Rattle.std.specs.Prelude.{ℕ, Bool, true, false, ◌&&◌, ◌||◌, not, ◌+◌, pos, nat_eq, if◌then◌else◌, Option, None, Some, List, [], ◌∷◌, ◌++◌, map, position, codes}
 use Rattle.std.specs.List.{list_all, list_any}
 use Rattle.std.specs.Option.{option_eq, option_map}
 use Rattle.std.specs.Cmp.Lexicographic.{pointwise}
@@ -159,6 +159,10 @@ slots Timer = object_own ++ timer_own
 slots Loader = sized_slots ++ loader_own
 slots Component = object_own
 
+-- their paths
+abbrev pub paths : BuiltIn → List (List ℕ)
+paths t = map (λ s. s.path) (slots t)
+
 -- the number of slots before the one of this path
 abbrev pub place_of_path : List ℕ → List NamedSlot → Option ℕ
 place_of_path path all = position (λ s. pointwise nat_eq s.path path) all
@@ -167,9 +171,26 @@ place_of_path path all = position (λ s. pointwise nat_eq s.path path) all
 abbrev pub find_slot : BuiltIn → List ℕ → Option Slot
 find_slot t path = option_map (λ i. record { index = i }) (place_of_path path (slots t))
 
+-- ---- items and groups
+-- the type is Item, or is based on it
+abbrev pub is_item : BuiltIn → Bool
+is_item QtObject = false
+is_item Timer = false
+is_item Component = false
+is_item t = true
+
+-- the group in which a path stands: what comes before its first dot
+abbrev pub group_of : List ℕ → Option (List ℕ)
+group_of [] = None
+group_of (c ∷ rest) = if nat_eq c 46 then Some [] else option_map (λ g. c ∷ g) (group_of rest)
+
+-- a slot of the type stands in the group of that name
+abbrev pub has_group : BuiltIn → List ℕ → Bool
+has_group t name = list_any (λ s. option_eq (pointwise nat_eq) (group_of s.path) (Some name)) (slots t)
+
 -- ---- rules that hold over the whole table
 -- each slot is found under its path, at its place, where so many come before these
-abbrev are_found : BuiltIn → ℕ → List NamedSlot → Bool
+abbrev pub are_found : BuiltIn → ℕ → List NamedSlot → Bool
 are_found t before [] = true
 are_found t before (s ∷ rest) = option_eq nat_eq (place_of_path s.path (slots t)) (Some before) && are_found t (before + 1) rest
 
@@ -190,7 +211,7 @@ fits kind.Line initial.OwnLine = true
 fits k i = false
 
 -- a slot in a group has one value, and each begins with a value of its kind
-abbrev is_lawful : NamedSlot → Bool
+abbrev pub is_lawful : NamedSlot → Bool
 is_lawful s = not (s.info.sided && is_dotted s.path) && fits s.info.kind s.info.initial
 
 -- the first slot of a type is its name for itself

@@ -1,5 +1,5 @@
 /// A built-in type.
-#[derive(Clone, Copy, Debug, PartialEq, Eq)]
+#[derive(Clone, Copy, PartialEq, Eq)]
 pub enum BuiltIn {
     /// An object without a place on the screen.
     QtObject,

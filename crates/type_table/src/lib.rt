@@ -3,14 +3,16 @@
 #![tactic(auto)]
 
 pub mod built_in;
+pub mod item_slots;
 pub mod laws;
 pub mod names;
+mod order;
 pub mod slot;
 mod table;
-#[cfg(test)]
-mod tests;
 
 pub use built_in::BuiltIn;
-pub use laws::the_table_is_sound;
-pub use names::{builtin, method, signal};
-pub use slot::{Initial, Kind, Slot, SlotInfo, find, slot_at, slot_count};
+pub use laws::{item_slots_are_found, the_table_is_sound};
+pub use names::{
+    builtin, has_group, is_item, method, method_count, signal, signal_args, signal_count,
+};
+pub use slot::{Initial, Kind, Slot, SlotInfo, find, slot_at, slot_count, slot_path};

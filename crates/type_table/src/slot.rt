@@ -1,12 +1,14 @@
-ghost use Rattle.std.specs.Prelude.{◌≡◌, ◌<◌, length, IsSomeAnd};
+ghost use Rattle.std.specs.Prelude.{◌≡◌, ◌<◌, Some, length, IsSomeAnd};
 ghost use Rattle.std.specs.List.{slice_get};
 ghost use Rattle.type_table.specs.Slots.{slots, find_slot};
 
 use crate::built_in::BuiltIn;
-use crate::table::{place_of, table_of};
+use crate::order::order_of;
+use crate::table::table_of;
+use std::cmp::Ordering;
 
 /// What a slot holds.
-#[derive(Clone, Copy, Debug, PartialEq, Eq)]
+#[derive(Clone, Copy, PartialEq, Eq)]
 pub enum Kind {
     /// A 32-bit integer.
     Int,
@@ -27,7 +29,7 @@ pub enum Kind {
 }
 
 /// What a slot holds in an object that was just made.
-#[derive(Clone, Copy, Debug, PartialEq, Eq)]
+#[derive(Clone, Copy, PartialEq, Eq)]
 pub enum Initial {
     /// That integer.
     Int(i32),
@@ -46,14 +48,14 @@ pub enum Initial {
 }
 
 /// A slot of a built-in type, by its number.
-#[derive(Clone, Copy, Debug, PartialEq, Eq)]
+#[derive(Clone, Copy, PartialEq, Eq)]
 pub struct Slot {
     /// How many slots of the type come before it.
     pub index: u32,
 }
 
 /// What is known of a slot in all objects of its type.
-#[derive(Clone, Copy, Debug, PartialEq, Eq)]
+#[derive(Clone, Copy, PartialEq, Eq)]
 pub struct SlotInfo {
     /// What it holds.
     pub kind: Kind,
@@ -70,12 +72,19 @@ pub struct SlotInfo {
 pub fn find(built_in: BuiltIn, path: &str) -> Option<Slot>
     ensures { result ≡ find_slot built_in path.now }
 {
-    match place_of(table_of(built_in), path) {
-        Some(index) => Some(Slot {
-            index: index as u32,
-        }),
-        None => None,
+    let order = order_of(built_in);
+    let mut low = 0;
+    let mut high = order.len();
+    while low < high {
+        let middle = low + (high - low) / 2;
+        let index = u32::from(order[middle]);
+        match slot_path(built_in, index).cmp(path) {
+            Ordering::Less => low = middle + 1,
+            Ordering::Greater => high = middle,
+            Ordering::Equal => return Some(Slot { index }),
+        }
     }
+    None
 }
 
 /// How many slots the type has.
@@ -91,4 +100,13 @@ pub fn slot_at(built_in: BuiltIn, index: u32) -> SlotInfo
     ensures { IsSomeAnd (slice_get (slots built_in) index) (λ slot. result ≡ slot.info) }
 {
     table_of(built_in)[index as usize].info
+}
+
+/// The path of the slot with that number of slots before it, under which `find` gives that slot.
+pub fn slot_path(built_in: BuiltIn, index: u32) -> &'static str
+    requires { index < length (slots built_in) }
+    ensures path { IsSomeAnd (slice_get (slots built_in) index) (λ slot. result.now ≡ slot.path) }
+    ensures found { find_slot built_in result.now ≡ Some (record { index = index }) }
+{
+    table_of(built_in)[index as usize].path
 }

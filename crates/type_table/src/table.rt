@@ -1,5 +1,4 @@
-ghost use Rattle.std.specs.Prelude.{◌≡◌, ◌≤◌, nat_eq, length, map, position};
-ghost use Rattle.std.specs.Cmp.Lexicographic.{pointwise};
+ghost use Rattle.std.specs.Prelude.{◌≡◌, ◌≤◌, length, map};
 ghost use Rattle.type_table.specs.Slots.{slots, slot_of};
 
 use crate::built_in::BuiltIn;
@@ -172,11 +171,4 @@ pub(crate) fn table_of(built_in: BuiltIn) -> &'static [TableRow]
         BuiltIn::Loader => &LOADER,
         BuiltIn::Component => &OBJECT,
     }
-}
-
-// The place of the slot of that path.
-pub(crate) fn place_of(table: &[TableRow], path: &str) -> Option<usize>
-    ensures { result ≡ position (λ row. pointwise nat_eq row.path.now path.now) table.now }
-{
-    table.iter().position(|row| row.path == path)
 }

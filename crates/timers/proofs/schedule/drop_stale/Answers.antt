@@ -1,4 +1,4 @@
-use Rattle.std.proofs.Common.{◌∙◌}
+use Rattle.std.proofs.Common.{◌∙◌, arith}
 use Rattle.timers.proofs.Queueing.{queued-loses, loses-shorter}
 use Rattle.timers.proofs.schedule.drop_stale.Goals as goal
 
@@ -8,5 +8,6 @@ loop-queue-smaller c = loses-shorter c.args.timers.now.timers _ _ c.loop-queue-t
 pub loop-queue-preserved : goal.loop-queue-preserved
 loop-queue-preserved c = record {
   queued = queued-loses _ _ _ c.loop-queue.invariant.queued c.loop-queue-test.ensures.stale c.pop.ensures.firings;
+  few = let shorter = loses-shorter c.args.timers.now.timers _ _ c.loop-queue-test.ensures.stale c.pop.ensures.firings in omega arith;
   room = c.pop.ensures.room ∙ c.loop-queue.invariant.room;
 }

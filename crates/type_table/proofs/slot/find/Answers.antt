@@ -1,21 +1,22 @@
-use Rattle.std.proofs.Common.{ap, sym, ◌∙◌, nat_eq}
-use Rattle.std.specs.Option.{option_map}
-use Rattle.std.specs.Cmp.Lexicographic.{pointwise}
-use Rattle.type_table.specs.declared.slot.Slot.{Slot}
-use Rattle.type_table.specs.Slots.{slot_of, place_of_path}
-use Rattle.type_table.proofs.Places.{position-map}
+use Rattle.std.proofs.Common.{[], ◌+◌, ◌-◌, ◌/◌, arith}
+use Rattle.type_table.proofs.Places.{left}
+use Rattle.type_table.proofs.Orders.{parts_after, parts_before, compared, met_slot, no_slot}
 use Rattle.type_table.proofs.slot.find.Goals as goal
 
-pub returns-in-Some : goal.returns-in-Some
-returns-in-Some c =
-    ap (option_map {U = Slot} (λ i. record { index = i }))
-    (c.in-Some.ensures
-    ∙ sym (position-map (λ s. pointwise nat_eq s.path c.args.path.now) slot_of c.table_of.result.now)
-    ∙ ap (place_of_path c.args.path.now) c.table_of.ensures.slots)
+pub loop-low-preserved-in-Less : goal.loop-low-preserved-in-Less
+loop-low-preserved-in-Less c =
+    parts_after _ [] _ _ _ _ _ (left _ _ c.order_of-order.ensures.order) (omega arith)
+    (compared c.args.built_in c.order_of-order.result.now _ _ (c.loop-low.low + (c.loop-low.high - c.loop-low.low) / 2) _ _ _ c.from-index.ensures c.slot_path.ensures.path c.cmp.ensures c.in-Less.is)
+    c.loop-low.invariant
 
-pub returns-in-None : goal.returns-in-None
-returns-in-None c =
-    ap (option_map {U = Slot} (λ i. record { index = i }))
-    (c.in-None.ensures
-    ∙ sym (position-map (λ s. pointwise nat_eq s.path c.args.path.now) slot_of c.table_of.result.now)
-    ∙ ap (place_of_path c.args.path.now) c.table_of.ensures.slots)
+pub loop-low-preserved : goal.loop-low-preserved
+loop-low-preserved c =
+    parts_before _ [] _ _ _ _ _ (left _ _ c.order_of-order.ensures.order) (omega arith)
+    (compared c.args.built_in c.order_of-order.result.now _ _ (c.loop-low.low + (c.loop-low.high - c.loop-low.low) / 2) _ _ _ c.from-index.ensures c.slot_path.ensures.path c.cmp.ensures c.in-Greater.is)
+    c.loop-low.invariant
+
+pub returns-in-Equal : goal.returns-in-Equal
+returns-in-Equal c = met_slot _ _ _ _ _ c.cmp.ensures c.in-Equal.is c.slot_path.ensures.found
+
+pub returns : goal.returns
+returns c = no_slot _ _ _ _ _ c.order_of-order.ensures.order (omega arith) c.loop-low.invariant
