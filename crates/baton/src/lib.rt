@@ -1,0 +1,17 @@
+//! A gate between two threads: an asker puts a question, a server takes it and answers it, and so on,
+//! turn by turn. Neither shares memory with the other, since a question and an answer move.
+#![tactic(auto)]
+
+pub mod asker;
+pub mod law;
+mod phase;
+pub mod server;
+mod steps;
+pub mod turns;
+pub mod view;
+mod waiting;
+
+pub use asker::{Asker, Closer, pair};
+pub use law::server_follows;
+pub use server::Server;
+pub use turns::Turns;
