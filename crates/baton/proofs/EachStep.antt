@@ -233,8 +233,8 @@ module _ {X Y Q A : Type 0} (asked_of : X → Q) (told_of : Y → A) (may_ask : 
   -- The same over the ends as contracts see them, once the empty slot was exchanged for one with the question, or the answer
   pub asks_from : (x : X) (slots id : ℕ) (gate : TableId) (side : Side Q A) (was me : Sitter) → side_of gate was.0 ≡ side → side.stage ≡ Idle → may_ask side.turns (asked_of x)
       → InHand was.0.stage was.1 → me ≡ (was.0, (0, Some (Question x)) ∷ rest was.1) → id ≡ 0 → Allows OK slots id me 0 (λ _. 2) (λ _. Asks asked_of me 2)
-  asks_from x slots id gate side was me seen idle may hand now is_first =
-      let stands : was.0.stage ≡ Idle = ap (λ (s : Side Q A). s.stage) seen ∙ idle in
+  asks_from x slots id gate side was me seen quiet may hand now is_first =
+      let stands : was.0.stage ≡ Idle = ap (λ (s : Side Q A). s.stage) seen ∙ quiet in
       let empty : was.1 ≡ (0, None) ∷ [] = subst (λ (stage : Stage Q A). InHand stage was.1) stands hand in
       let lawful : may_ask was.0.turns (asked_of x) = subst (λ (s : Side Q A). may_ask s.turns (asked_of x)) (sym seen) may in
       subst (λ (m : Sitter). Allows OK slots id m 0 (λ _. 2) (λ _. Asks asked_of m 2)) (sym now)
@@ -250,11 +250,14 @@ module _ {X Y Q A : Type 0} (asked_of : X → Q) (told_of : Y → A) (may_ask : 
 
   pub closes_from : (slots id : ℕ) (gate : TableId) (side : Side Q A) (me : Sitter) → side_of gate me.0 ≡ side → side.stage ≡ Idle → InHand me.0.stage me.1 → id ≡ 0
       → Allows OK slots id me 0 (λ _. 5) (λ _. Closes me 5)
-  closes_from slots id gate side me seen idle hand is_first =
-      let stands : me.0.stage ≡ Idle = ap (λ (s : Side Q A). s.stage) seen ∙ idle in
+  closes_from slots id gate side me seen quiet hand is_first =
+      let stands : me.0.stage ≡ Idle = ap (λ (s : Side Q A). s.stage) seen ∙ quiet in
       closes slots id me is_first (subst (λ (stage : Stage Q A). InHand stage me.1) stands hand) (subst IsIdle (sym stands) tt)
 
   pub collects_from : (slots id : ℕ) (gate : TableId) (side : Side Q A) (me : Sitter) → side_of gate me.0 ≡ side → IsAsked side.stage → InHand me.0.stage me.1 → id ≡ 0
       → Allows OK slots id me 0 (λ n. either (n == 4) 1 n) (Collects told_of may_answer false me)
   collects_from slots id gate side me seen asked_side hand is_first =
       collects_again false slots id me me refl is_first hand (subst (λ (s : Side Q A). IsAsked s.stage) (sym seen) asked_side)
+
+  pub joins_from : (id : ℕ) (v : View Q A) (other : ℕ) (w : View Q A) → id ≡ 0 → v.stage ≡ Ended → w.stage ≡ Dismissed → Joins OK id v other w (taken_back v w) nobody
+  joins_from id v other w is_first ended gone = joins id v other w is_first (subst IsEnded (sym ended) tt) (subst IsDismissed (sym gone) tt)
