@@ -1,20 +1,21 @@
 -- Each kind of step keeps the rule.
-use Rattle.std.proofs.Common.{◌≡◌, ◌∙◌, ◌<◌, lit<, ℕ, zero, suc, ◌+◌, List, [], ◌∷◌, ◌++◌, Bool, true, false, Option, Some, None, refl, sym, ap, subst, arith, ◌==◌}
+use Rattle.std.proofs.Common.{◌≡◌, ◌∙◌, lit<, ℕ, ◌+◌, List, [], ◌∷◌, ◌++◌, Bool, true, false, Option, Some, None, refl, sym, ap, subst, ◌==◌}
 use Rattle.std.specs.Prelude.{slice_set}
-use mathlib.Core.Option.{Option as Home, some, none, some-injective, some-ne-none}
+use mathlib.Core.Option.{Option as Home, some, none, some-injective}
 use lib.ListN.{get_elem?}
 use prog.Atomic.{either}
 use Rattle.atomic_table.specs.Seated.{TableId}
-use Rattle.atomic_table.specs.Table.{State, Me, Act, keeps, takes, gives, Allows, Splits, Joins, opening, rest}
+use Rattle.atomic_table.specs.Table.{State, Me, keeps, takes, gives, Allows, Splits, Joins, opening, rest}
 use Rattle.baton.specs.declared.view.Stage.{Stage}
-use Rattle.baton.specs.declared.view.Stage.TheVariants.{Sole, Fresh, Idle, Asked, Ended, Met, Waiting, Working, Dismissed, Spent}
+use Rattle.baton.specs.declared.view.Stage.TheVariants.{Idle, Asked, Ended, Met, Waiting, Working, Dismissed}
 use Rattle.baton.specs.declared.view.View.{View}
 use Rattle.baton.specs.declared.view.Cargo.{Cargo}
 use Rattle.baton.specs.declared.view.Cargo.TheVariants.{Question, Answer}
 use Rattle.baton.specs.Moments.{Moment, view, word_of, phase_at, asker_at, server_at, sole, fresh, idle, asked, working, answered, closed, parted, joined}
 use Rattle.baton.specs.Rule.{HomeAt, Kept}
-use Rattle.baton.specs.Steps.{alone, parted as part, newcomer, nobody, taken_back, moved, gained, collected, missed, Starts, Asks, Takes, Replies, Collects, Closes, Learns}
-use Rattle.baton.specs.Sides.{IsSole, IsFresh, IsIdle, IsAsked, IsEnded, IsDismissed, IsMet, IsWaiting, IsServer, MayAnswerAt, MayAnswer, InHand, Side, side_of}
+use Rattle.baton.specs.Steps.{alone, parted as part, newcomer, nobody, taken_back, Starts, Asks, Takes, Replies, Collects, Closes, Learns}
+use Rattle.baton.proofs.Standing.{IsSole, IsFresh, IsIdle, IsEnded, IsDismissed, IsMet, IsWaiting}
+use Rattle.baton.specs.Sides.{IsAsked, IsServer, MayAnswerAt, MayAnswer, InHand, Side, side_of}
 use Rattle.baton.proofs.Moves.{Head, gate_at, kept, is_gate_at, Goes, asker_goes, server_goes, other_seat}
 
 -- the slot that was taken last, beside nothing
@@ -108,9 +109,13 @@ module _ {X Y Q A : Type 0} (asked_of : X → Q) (told_of : Y → A) (may_ask : 
 
   asks_at : (x : X) (m : Moment Q A) (counts : ℕ × ℕ) (home : Home (Option (Cargo X Y))) → At home m → IsIdle (asker_at counts m).stage × may_ask (asker_at counts m).turns (asked_of x)
       → AskerGoes (λ _. 2) (Asks asked_of) ((0, Some (Question x)) ∷ []) m counts home
-  asks_at x (idle ts) counts home fits stands =
-      (view (Asked (asked_of x)) ts counts, gives, tt, Keeps (asked ts (asked_of x)) counts (some (Some (Question x))) (x, refl, refl, stands.1),
-        λ x' e. ap (λ (c : List (ℕ × Option (Cargo X Y))). (view (Asked (asked_of (question_in x c))) ts counts, [])) e)
+  asks_at x (idle ts) counts home fits stands = (
+    view (Asked (asked_of x)) ts counts,
+    gives,
+    tt,
+    Keeps (asked ts (asked_of x)) counts (some (Some (Question x))) (x, refl, refl, stands.1),
+    λ x' e. ap (λ (c : List (ℕ × Option (Cargo X Y))). (view (Asked (asked_of (question_in x c))) ts counts, [])) e,
+  )
   asks_at x _ counts home fits stands = absurd stands.0
 
   pub asks : (x : X) (slots id : ℕ) (me : Sitter) → id ≡ 0 → me.1 ≡ (0, Some (Question x)) ∷ [] → IsIdle me.0.stage × may_ask me.0.turns (asked_of x)
@@ -122,9 +127,13 @@ module _ {X Y Q A : Type 0} (asked_of : X → Q) (told_of : Y → A) (may_ask : 
   takes_at sole counts home fits = tt
   takes_at fresh counts home fits = λ stands. (view Waiting [] (0, 0), keeps, tt, Keeps fresh counts home fits, (refl, lit< tt))
   takes_at (idle ts) counts home fits = λ stands. (view Waiting ts (0, 0), keeps, tt, Keeps (idle ts) counts home fits, (refl, lit< tt))
-  takes_at (asked ts q) counts home (x, lies, is, may) = λ stands.
-      (view (Working q) ts (0, 0), takes 0 (Some (Question x)), ap some lies, Keeps (working ts q) counts none refl,
-        (x, subst (may_ask ts) (sym is) may, λ i. (view (Working (sym is i)) ts (0, 0), (0, Some (Question x)) ∷ [])))
+  takes_at (asked ts q) counts home (x, lies, is, may) = λ stands. (
+    view (Working q) ts (0, 0),
+    takes 0 (Some (Question x)),
+    ap some lies,
+    Keeps (working ts q) counts none refl,
+    (x, subst (may_ask ts) (sym is) may, λ i. (view (Working (sym is i)) ts (0, 0), (0, Some (Question x)) ∷ [])),
+  )
   takes_at (working ts q) counts home fits = λ stands. absurd stands
   takes_at (answered ts q a) counts home fits = λ stands. (view Waiting (ts ++ (q, a) ∷ []) (0, 0), keeps, tt, Keeps (answered ts q a) counts home fits, (refl, lit< tt))
   takes_at (closed ts) counts home fits = λ stands. (view Dismissed ts (0, 0), keeps, tt, Keeps (Rattle.baton.specs.Moments.parted ts) counts home fits, refl)
@@ -144,9 +153,13 @@ module _ {X Y Q A : Type 0} (asked_of : X → Q) (told_of : Y → A) (may_ask : 
   replies_at : (y : Y) (m : Moment Q A) (counts : ℕ × ℕ) (home : Home (Option (Cargo X Y))) → At home m
       → ServerGoes (λ v. MayAnswerAt (may_answer v.turns) v.stage (told_of y)) (λ _. 4) (Replies told_of) ((0, Some (Answer y)) ∷ []) m counts home
   replies_at y sole counts home fits = tt
-  replies_at y (working ts q) counts home fits = λ may.
-      (view Waiting (ts ++ (q, told_of y) ∷ []) (0, 0), gives, tt, Keeps (answered ts q (told_of y)) counts (some (Some (Answer y))) (y, refl, refl, may),
-        λ y' is_y. (q, refl, λ i. (view Waiting (ts ++ (q, told_of (answer_in {X = X} y (is_y i))) ∷ []) (0, 0), [])))
+  replies_at y (working ts q) counts home fits = λ may. (
+    view Waiting (ts ++ (q, told_of y) ∷ []) (0, 0),
+    gives,
+    tt,
+    Keeps (answered ts q (told_of y)) counts (some (Some (Answer y))) (y, refl, refl, may),
+    λ y' is_y. (q, refl, λ i. (view Waiting (ts ++ (q, told_of (answer_in {X = X} y (is_y i))) ∷ []) (0, 0), [])),
+  )
   replies_at y _ counts home fits = λ may. absurd may
 
   works_serves : (y : Y) (v : View Q A) → MayAnswerAt (may_answer v.turns) v.stage (told_of y) → IsServer v.stage
@@ -166,12 +179,20 @@ module _ {X Y Q A : Type 0} (asked_of : X → Q) (told_of : Y → A) (may_ask : 
   collects_at false (asked ts q) counts home fits stands = (view (Asked q) ts (counts.0 + 1, counts.1), keeps, tt, Keeps (asked ts q) (counts.0 + 1, counts.1) home fits, (refl, lit< tt))
   collects_at true (working ts q) counts home fits stands = (view (Asked q) ts counts, keeps, tt, Keeps (working ts q) counts home fits, (refl, lit< tt))
   collects_at false (working ts q) counts home fits stands = (view (Asked q) ts (counts.0 + 1, counts.1), keeps, tt, Keeps (working ts q) (counts.0 + 1, counts.1) home fits, (refl, lit< tt))
-  collects_at true (answered ts q a) counts home (y, lies, is, may) stands =
-      (view Idle (ts ++ (q, a) ∷ []) (counts.0, counts.1 + 1), takes 0 (Some (Answer y)), ap some lies, Keeps (idle (ts ++ (q, a) ∷ [])) (counts.0, counts.1 + 1) none refl,
-        (q, y, refl, subst (may_answer ts q) (sym is) may, λ i. (view Idle (ts ++ (q, sym is i) ∷ []) (counts.0, counts.1 + 1), (0, Some (Answer y)) ∷ [])))
-  collects_at false (answered ts q a) counts home (y, lies, is, may) stands =
-      (view Idle (ts ++ (q, a) ∷ []) counts, takes 0 (Some (Answer y)), ap some lies, Keeps (idle (ts ++ (q, a) ∷ [])) counts none refl,
-        (q, y, refl, subst (may_answer ts q) (sym is) may, λ i. (view Idle (ts ++ (q, sym is i) ∷ []) counts, (0, Some (Answer y)) ∷ [])))
+  collects_at true (answered ts q a) counts home (y, lies, is, may) stands = (
+    view Idle (ts ++ (q, a) ∷ []) (counts.0, counts.1 + 1),
+    takes 0 (Some (Answer y)),
+    ap some lies,
+    Keeps (idle (ts ++ (q, a) ∷ [])) (counts.0, counts.1 + 1) none refl,
+    (q, y, refl, subst (may_answer ts q) (sym is) may, λ i. (view Idle (ts ++ (q, sym is i) ∷ []) (counts.0, counts.1 + 1), (0, Some (Answer y)) ∷ [])),
+  )
+  collects_at false (answered ts q a) counts home (y, lies, is, may) stands = (
+    view Idle (ts ++ (q, a) ∷ []) counts,
+    takes 0 (Some (Answer y)),
+    ap some lies,
+    Keeps (idle (ts ++ (q, a) ∷ [])) counts none refl,
+    (q, y, refl, subst (may_answer ts q) (sym is) may, λ i. (view Idle (ts ++ (q, sym is i) ∷ []) counts, (0, Some (Answer y)) ∷ [])),
+  )
   collects_at _ _ counts home fits stands = absurd stands
 
   pub collects : (waiting : Bool) (slots id : ℕ) (me : Sitter) → id ≡ 0 → me.1 ≡ [] → IsAsked me.0.stage
@@ -188,7 +209,7 @@ module _ {X Y Q A : Type 0} (asked_of : X → Q) (told_of : Y → A) (may_ask : 
   -- the server is taken back
   joins_at : (m : Moment Q A) (counts : ℕ × ℕ) (home : Home (Option (Cargo X Y))) → At home m → IsEnded (asker_at counts m).stage
       → Head (server_at m) (λ w. IsDismissed w.stage
-          → OK record { words = word_of (phase_at m) ∷ []; homes = home ∷ []; views = slice_set (slice_set (asker_at counts m ∷ server_at m) 0 (taken_back (asker_at counts m) w)) 1 nobody })
+      → OK record { words = word_of (phase_at m) ∷ []; homes = home ∷ []; views = slice_set (slice_set (asker_at counts m ∷ server_at m) 0 (taken_back (asker_at counts m) w)) 1 nobody })
   joins_at (closed ts) counts home fits stands = λ gone. absurd gone
   joins_at (Rattle.baton.specs.Moments.parted ts) counts home fits stands = λ gone. Keeps (joined ts) counts home fits
   joins_at _ counts home fits stands = absurd stands
@@ -203,8 +224,8 @@ module _ {X Y Q A : Type 0} (asked_of : X → Q) (told_of : Y → A) (may_ask : 
       let beside : get_elem? (taken_back v w ∷ server_at m) other ≡ some w = subst (λ (t : State (Option (Cargo X Y)) (View Q A)). get_elem? (slice_set t.views 0 (taken_back v w)) other ≡ some w) (is_gate s k) from_first in
       let two = other_seat (taken_back v w) m other w beside (subst (λ (n : ℕ). ¬ (other ≡ n)) is_first apart) in
       let first : IsDismissed w.stage → OK record { words = g.words; homes = g.homes; views = slice_set (slice_set g.views 0 (taken_back u w)) 1 nobody } =
-          subst (λ (l : List (View Q A)). Head l (λ x. IsDismissed x.stage → OK record { words = g.words; homes = g.homes; views = slice_set (slice_set g.views 0 (taken_back u x)) 1 nobody }))
-            two.1 (joins_at m k.counts k.home k.fits (subst (λ (x : View Q A). IsEnded x.stage) (sym same) ended)) in
+      subst (λ (l : List (View Q A)). Head l (λ x. IsDismissed x.stage → OK record { words = g.words; homes = g.homes; views = slice_set (slice_set g.views 0 (taken_back u x)) 1 nobody }))
+      two.1 (joins_at m k.counts k.home k.fits (subst (λ (x : View Q A). IsEnded x.stage) (sym same) ended)) in
       let second = subst (λ (x : View Q A). OK record { words = g.words; homes = g.homes; views = slice_set (slice_set g.views 0 (taken_back x w)) 1 nobody }) same (first gone) in
       let third = subst (λ (t : State (Option (Cargo X Y)) (View Q A)). OK record { words = t.words; homes = t.homes; views = slice_set (slice_set t.views 0 (taken_back v w)) 1 nobody }) (sym (is_gate s k)) second in
       let fourth = subst (λ (n : ℕ). OK record { words = s.words; homes = s.homes; views = slice_set (slice_set s.views 0 (taken_back v w)) n nobody }) (sym two.0) third in
@@ -227,8 +248,8 @@ module _ {X Y Q A : Type 0} (asked_of : X → Q) (told_of : Y → A) (may_ask : 
       → Allows OK slots id me 0 (λ n. either (n == 2) 3 n) (Takes asked_of may_ask me)
   takes_again slots id me was same hand stands =
       takes_question slots id me
-        (ap (λ (m : Sitter). m.1) same ∙ subst (λ (stage : Stage Q A). InHand stage was.1) stands hand)
-        (subst (λ (m : Sitter). IsWaiting m.0.stage) (sym same) (subst IsWaiting (sym stands) tt))
+      (ap (λ (m : Sitter). m.1) same ∙ subst (λ (stage : Stage Q A). InHand stage was.1) stands hand)
+      (subst (λ (m : Sitter). IsWaiting m.0.stage) (sym same) (subst IsWaiting (sym stands) tt))
 
   -- The same over the ends as contracts see them, once the empty slot was exchanged for one with the question, or the answer
   pub asks_from : (x : X) (slots id : ℕ) (gate : TableId) (side : Side Q A) (was me : Sitter) → side_of gate was.0 ≡ side → side.stage ≡ Idle → may_ask side.turns (asked_of x)
@@ -238,7 +259,7 @@ module _ {X Y Q A : Type 0} (asked_of : X → Q) (told_of : Y → A) (may_ask : 
       let empty : was.1 ≡ (0, None) ∷ [] = subst (λ (stage : Stage Q A). InHand stage was.1) stands hand in
       let lawful : may_ask was.0.turns (asked_of x) = subst (λ (s : Side Q A). may_ask s.turns (asked_of x)) (sym seen) may in
       subst (λ (m : Sitter). Allows OK slots id m 0 (λ _. 2) (λ _. Asks asked_of m 2)) (sym now)
-        (asks x slots id (was.0, (0, Some (Question x)) ∷ rest was.1) is_first (ap (λ (c : List (ℕ × Option (Cargo X Y))). (0, Some (Question x)) ∷ rest c) empty) (subst IsIdle (sym stands) tt, lawful))
+      (asks x slots id (was.0, (0, Some (Question x)) ∷ rest was.1) is_first (ap (λ (c : List (ℕ × Option (Cargo X Y))). (0, Some (Question x)) ∷ rest c) empty) (subst IsIdle (sym stands) tt, lawful))
 
   pub replies_from : (y : Y) (slots id : ℕ) (gate : TableId) (side : Side Q A) (was me : Sitter) → side_of gate was.0 ≡ side → MayAnswer may_answer side (told_of y)
       → InHand was.0.stage was.1 → me ≡ (was.0, (0, Some (Answer y)) ∷ rest was.1) → Allows OK slots id me 0 (λ _. 4) (λ _. Replies told_of me 4)
@@ -246,7 +267,7 @@ module _ {X Y Q A : Type 0} (asked_of : X → Q) (told_of : Y → A) (may_ask : 
       let stands : MayAnswerAt (may_answer was.0.turns) was.0.stage (told_of y) = subst (λ (s : Side Q A). MayAnswer may_answer s (told_of y)) (sym seen) may in
       let empty : was.1 ≡ (0, None) ∷ [] = working_hand (may_answer was.0.turns) was.0.stage (told_of y) was.1 hand stands in
       subst (λ (m : Sitter). Allows OK slots id m 0 (λ _. 4) (λ _. Replies told_of m 4)) (sym now)
-        (replies y slots id (was.0, (0, Some (Answer y)) ∷ rest was.1) (ap (λ (c : List (ℕ × Option (Cargo X Y))). (0, Some (Answer y)) ∷ rest c) empty) stands)
+      (replies y slots id (was.0, (0, Some (Answer y)) ∷ rest was.1) (ap (λ (c : List (ℕ × Option (Cargo X Y))). (0, Some (Answer y)) ∷ rest c) empty) stands)
 
   pub closes_from : (slots id : ℕ) (gate : TableId) (side : Side Q A) (me : Sitter) → side_of gate me.0 ≡ side → side.stage ≡ Idle → InHand me.0.stage me.1 → id ≡ 0
       → Allows OK slots id me 0 (λ _. 5) (λ _. Closes me 5)

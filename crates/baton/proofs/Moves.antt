@@ -1,9 +1,9 @@
 -- A step is proved for each moment at which its end may make it, and everywhere else its end doesn't stand so.
 use Rattle.std.proofs.Common.{◌≡◌, ℕ, zero, suc, List, [], ◌∷◌, Option, refl, sym, ap, subst}
-use mathlib.Core.Option.{Option as Home, some, none, some-injective, some-ne-none}
+use mathlib.Core.Option.{Option as Home, some, some-injective, some-ne-none}
 use lib.ListN.{get_elem?}
 use Rattle.std.specs.Prelude.{slice_index}
-use Rattle.atomic_table.specs.Table.{State, Me, Act, Valid, Allows, Splits, Joins, stepped, carried_after}
+use Rattle.atomic_table.specs.Table.{State, Me, Act, Valid, Allows, stepped, carried_after}
 use Rattle.baton.specs.declared.view.View.{View}
 use Rattle.baton.specs.declared.view.Cargo.{Cargo}
 use Rattle.baton.specs.Moments.{Moment, word_of, phase_at, asker_at, server_at, sole, fresh, idle, asked, working, answered, closed, parted, joined}
@@ -77,7 +77,7 @@ module _ {X Y Q A : Type 0} (asked_of : X → Q) (told_of : Y → A) (may_ask : 
   module _ (f : ℕ → ℕ) (then : Me (Option (Cargo X Y)) (View Q A) → ℕ → Me (Option (Cargo X Y)) (View Q A) → Type 0) (P : View Q A → Type 0) (c : List (ℕ × Option (Cargo X Y))) where
     -- a step of the asker, which sits in the first seat
     pub asker_goes : ((m : Moment Q A) (counts : ℕ × ℕ) (home : Home (Option (Cargo X Y))) → HomeAt asked_of told_of may_ask may_answer home m
-          → P (asker_at counts m) → Goes f (then (asker_at counts m, c)) 0 (asker_at counts m, c) (gate_at m counts home))
+        → P (asker_at counts m) → Goes f (then (asker_at counts m, c)) 0 (asker_at counts m, c) (gate_at m counts home))
         → (slots id : ℕ) (me : Me (Option (Cargo X Y)) (View Q A)) → id ≡ 0 → me.1 ≡ c → P me.0
         → Allows Rule slots id me 0 f (then me)
     asker_goes each slots id me is_first carries stands s k long seen fits =
@@ -94,7 +94,7 @@ module _ {X Y Q A : Type 0} (asked_of : X → Q) (told_of : Y → A) (may_ask : 
 
     -- a step of the server, which sits in the second seat
     pub server_goes : ((m : Moment Q A) (counts : ℕ × ℕ) (home : Home (Option (Cargo X Y))) → HomeAt asked_of told_of may_ask may_answer home m
-          → Head (server_at m) (λ v. P v → Goes f (then (v, c)) 1 (v, c) (gate_at m counts home)))
+        → Head (server_at m) (λ v. P v → Goes f (then (v, c)) 1 (v, c) (gate_at m counts home)))
         → ((v : View Q A) → P v → IsServer v.stage)
         → (slots id : ℕ) (me : Me (Option (Cargo X Y)) (View Q A)) → me.1 ≡ c → P me.0
         → Allows Rule slots id me 0 f (then me)

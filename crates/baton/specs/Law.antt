@@ -1,7 +1,6 @@
 -- What is so of both ends of a gate, between any two steps of either.
 use Rattle.std.specs.Prelude.{◌≡◌, List, [], ◌∷◌, ◌++◌, Option, ◌⊎◌}
 use Rattle.atomic_table.specs.Table.{State}
-use Rattle.baton.specs.declared.view.Stage.{Stage}
 use Rattle.baton.specs.declared.view.Stage.TheVariants.{Asked, Ended, Working}
 use Rattle.baton.specs.declared.view.View.{View}
 use Rattle.baton.specs.declared.view.Cargo.{Cargo}

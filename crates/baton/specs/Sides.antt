@@ -1,9 +1,9 @@
 -- The two ends of a gate, as contracts see them.
-use Rattle.std.specs.Prelude.{◌≡◌, ℕ, ◌+◌, List, [], ◌∷◌, ◌++◌, Option, None}
+use Rattle.std.specs.Prelude.{◌≡◌, ℕ, List, [], ◌∷◌, ◌++◌, Option, None}
 use Rattle.atomic_table.specs.Table.{Me}
 use Rattle.atomic_table.specs.Seated.{TableId}
 use Rattle.baton.specs.declared.view.Stage.{Stage}
-use Rattle.baton.specs.declared.view.Stage.TheVariants.{Sole, Fresh, Idle, Asked, Ended, Met, Waiting, Working, Dismissed, Spent}
+use Rattle.baton.specs.declared.view.Stage.TheVariants.{Idle, Asked, Waiting, Working, Dismissed}
 use Rattle.baton.specs.declared.view.View.{View}
 
 -- One end of a gate: which gate it is, where this end stands, and the turns that are whole for it.
@@ -29,34 +29,6 @@ module _ {Q A : Type 0} where
   IsServer (Working q) = Unit {0}
   IsServer Dismissed = Unit {0}
   IsServer _ = ⊥
-
-  abbrev pub IsSole : Stage Q A → Type 0
-  IsSole Sole = Unit {0}
-  IsSole _ = ⊥
-
-  abbrev pub IsFresh : Stage Q A → Type 0
-  IsFresh Fresh = Unit {0}
-  IsFresh _ = ⊥
-
-  abbrev pub IsIdle : Stage Q A → Type 0
-  IsIdle Idle = Unit {0}
-  IsIdle _ = ⊥
-
-  abbrev pub IsEnded : Stage Q A → Type 0
-  IsEnded Ended = Unit {0}
-  IsEnded _ = ⊥
-
-  abbrev pub IsDismissed : Stage Q A → Type 0
-  IsDismissed Dismissed = Unit {0}
-  IsDismissed _ = ⊥
-
-  abbrev pub IsMet : Stage Q A → Type 0
-  IsMet (Met ts) = Unit {0}
-  IsMet _ = ⊥
-
-  abbrev pub IsWaiting : Stage Q A → Type 0
-  IsWaiting Waiting = Unit {0}
-  IsWaiting _ = ⊥
 
   -- a question is out
   abbrev pub IsAsked : Stage Q A → Type 0

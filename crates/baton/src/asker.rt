@@ -1,6 +1,7 @@
 //! The end of a gate that asks, and how a gate is made and left.
 ghost use Rattle.std.specs.Prelude.{◌≡◌, ℕ, ◌+◌, ◌++◌, ◌∷◌, [], IfOk, IfSome, IfNone};
 ghost use Rattle.std.specs.Arc.{arc_value};
+ghost use Rattle.baton.specs.declared.view.Stage.TheVariants.{Ended};
 ghost use Rattle.baton.specs.Sides.{Side, side_of, unused, Sits, IsAsked, Gains};
 
 use crate::phase::Phase;
@@ -39,7 +40,7 @@ impl<P: Turns> Model for Closer<P> {
 
     ghost view = { λ a. side_of a.seat.table_id a.seat.me.0 };
 
-    ghost invariant = { λ a. Sits (arc_value a.table).shared.table_id a.seat.table_id a.seat.me × (a.seat.id ≡ 0) };
+    ghost invariant = { λ a. Sits (arc_value a.table).shared.table_id a.seat.table_id a.seat.me × (a.seat.id ≡ 0) × (a.seat.me.0.stage ≡ Ended) };
 }
 
 /// Makes a gate with no turns. All memory that the gate takes is taken here, before its first step;
@@ -117,7 +118,6 @@ impl<P: Turns> Closer<P> {
     pub fn meet(self, server: Server<P>)
         requires gate { server.gate ≡ self.gate }
         requires dismissed { server.stage ≡ Stage.Dismissed }
-        requires ended { self.stage ≡ Stage.Ended }
         ensures { server.turns ≡ self.turns }
     {
         let Closer { table, mut seat } = self;

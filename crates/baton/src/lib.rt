@@ -2,16 +2,17 @@
 //! turn by turn. Neither shares memory with the other, since a question and an answer move.
 #![tactic(auto)]
 
-pub mod asker;
-pub mod law;
+mod asker;
+mod law;
 mod phase;
-pub mod server;
+mod server;
 mod steps;
-pub mod turns;
-pub mod view;
+mod turns;
+mod view;
 mod waiting;
 
 pub use asker::{Asker, Closer, pair};
 pub use law::server_follows;
 pub use server::Server;
 pub use turns::Turns;
+pub use view::Stage;

@@ -2,7 +2,6 @@
 
 /// Where a gate stands. Only the asker ends `Fresh`, `Idle` and `Answered`, and only the server ends
 /// `Asked` and `Working`; nothing ends `Closed`.
-#[derive(Clone, Copy)]
 pub enum Phase {
     /// The slot is at home and empty.
     Fresh = 0,

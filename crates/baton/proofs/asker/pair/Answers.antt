@@ -1,5 +1,5 @@
 use Rattle.std.proofs.Common.{arith, ap, sym, subst, ◌∙◌}
-use Rattle.baton.specs.Sides.{IsSole, IsFresh}
+use Rattle.baton.proofs.Standing.{IsSole, IsFresh}
 use Rattle.baton.proofs.EachStep.{opens, parts, starts}
 use Rattle.baton.proofs.asker.pair.Goals as goal
 

@@ -1,5 +1,6 @@
 use Rattle.std.proofs.Common.{arith, ap, sym, subst, ◌∙◌}
-use Rattle.baton.specs.Sides.{IsMet, InHand}
+use Rattle.baton.specs.Sides.{InHand}
+use Rattle.baton.proofs.Standing.{IsMet}
 use Rattle.baton.proofs.EachStep.{joins_from, learns}
 use Rattle.baton.proofs.asker.Closer.meet.Goals as goal
 
@@ -16,7 +17,7 @@ join_seat-requires g c =
       c.into_seat.ensures.hand c.requires.dismissed,
       omega arith,
       joins_from t.asked t.told t.may_ask t.may_answer c.self.inside.seat.id c.self.inside.seat.me.0 server.id server.me.0 c.self.invariant.1
-        (ap (λ s. s.stage) c.self.view_is ∙ c.requires.ended) (ap (λ s. s.stage) (sym known) ∙ c.requires.dismissed),
+          c.self.invariant.2 (ap (λ s. s.stage) (sym known) ∙ c.requires.dismissed),
     )
 
 pub load-requires : goal.load-requires
@@ -27,9 +28,9 @@ load-requires g c =
     let words = ap (λ z. z.words) here ∙ sits.1 in
     let joined = c.join_seat.ensures in
     let seat = c.join_seat.new.seat in
-    let stands = ap (λ s. s.stage) c.self.view_is ∙ c.requires.ended in (
+    let stands = c.self.invariant.2 in (
       joined.0 ∙ (sits.0 ∙ sym here),
       omega arith,
       learns t.asked t.told t.may_ask t.may_answer _ seat.id seat.me (joined.1 ∙ c.self.invariant.1)
-        (ap (λ m. m.1) joined.2 ∙ subst (λ stage. InHand stage c.self.inside.seat.me.1) stands sits.3) (subst (λ m. IsMet m.0.stage) (sym joined.2) tt),
+          (ap (λ m. m.1) joined.2 ∙ subst (λ stage. InHand stage c.self.inside.seat.me.1) stands sits.3) (subst (λ m. IsMet m.0.stage) (sym joined.2) tt),
     )
