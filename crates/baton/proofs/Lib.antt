@@ -1,0 +1,3 @@
+mod Standing
+mod Moves
+mod EachStep

@@ -1,0 +1,6 @@
+-- The seat stays as it was as long as there is no answer.
+use Rattle.std.proofs.Common.{◌≡◌}
+use Rattle.baton.proofs.waiting.await_answer.Given as goal
+
+abbrev pub invariant-loop : goal.invariant-loop
+invariant-loop g l = (l.seat.table_id ≡ l.initial.seat.table_id) × (l.seat.id ≡ l.initial.seat.id) × (l.seat.me ≡ l.initial.seat.me)

@@ -1,0 +1,5 @@
+pub mod Sides
+pub mod Moments
+pub mod Rule
+pub mod Steps
+pub mod Law
