@@ -15,6 +15,3 @@ pub use lexeme::Lexeme;
 pub use natural::Natural;
 pub use parser::{MAX_NODES, expression, member, whole_expression};
 pub use token::Token;
-
-#[cfg(test)]
-mod tests;

@@ -18,6 +18,3 @@ pub use lexer::{Scanner, lex};
 pub use meaning::{DecimalValue, decimal_value, integer_value, name_text, name_value, text_value};
 pub use place::end_place;
 pub use token::{Token, TokenKind, Tokens};
-
-#[cfg(test)]
-mod tests;

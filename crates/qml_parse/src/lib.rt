@@ -16,14 +16,3 @@ mod value;
 pub use document::parse;
 pub use laws::one_reading;
 pub use qml_print::print;
-
-#[cfg(test)]
-mod limit_tests;
-#[cfg(test)]
-mod print_tests;
-#[cfg(test)]
-mod tests;
-#[cfg(test)]
-mod told;
-#[cfg(test)]
-mod word_tests;

@@ -10,6 +10,3 @@ mod sheet;
 mod stmt;
 
 pub use document::{print, print_expr, print_stmt};
-
-#[cfg(test)]
-mod tests;

@@ -10,6 +10,3 @@ mod short;
 
 pub use ends::end;
 pub use parser::{block, statement};
-
-#[cfg(test)]
-mod tests;

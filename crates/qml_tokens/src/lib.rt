@@ -8,6 +8,3 @@ mod mark;
 pub mod tokens;
 
 pub use tokens::tokens_of_text;
-
-#[cfg(test)]
-mod tests;
