@@ -32,13 +32,6 @@ impl Name {
         Ok(Name { text })
     }
 
-    /// The name that a text is.
-    pub fn from_text(text: Text) -> Name
-        ensures { result ≡ text }
-    {
-        Name { text }
-    }
-
     /// An equal name.
     pub fn copy(&self, alloc: Global) -> Result<Name, AllocError>
         ensures { IfOk result (λ copied. copied ≡ self.now) }

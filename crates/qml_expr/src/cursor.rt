@@ -2,7 +2,7 @@ ghost use Rattle.std.specs.Prelude.{◌≡◌, is_some, IfOk, length};
 ghost use Rattle.qml_ast.specs.declared.fault.DocFault.TheVariants.{TooDeep};
 ghost use Rattle.qml_grammar.specs.Expressions.{begins_postfix};
 ghost use Rattle.qml_grammar.specs.Inputs as spec;
-ghost use Rattle.qml_grammar.specs.Lexemes.{is_mark, is_word, is_name, is_foreign, is_foreign_operand, atom_of, name_of, operand_name_of, looked_up, unary_operator};
+ghost use Rattle.qml_grammar.specs.Lexemes.{is_mark, is_word, is_foreign, is_foreign_operand, atom_of, name_of, operand_name_of, looked_up, unary_operator};
 ghost use Rattle.qml_expr.specs.Precedences.{table_at, begins_at};
 ghost use Rattle.qml_expr.specs.Readings.{IsReading};
 ghost use Rattle.qml_expr.specs.Seen.{input_of, lexeme_of, atom_of_lexeme};
@@ -16,7 +16,7 @@ use sqlite_items::Boxed;
 use std::alloc::{AllocError, Global};
 
 /// Where reading stands among the tokens of a document.
-#[derive(Clone, Copy, Debug)]
+#[derive(Clone, Copy)]
 pub struct Cursor<'a> {
     /// The tokens that are left.
     pub rest: &'a [Token],
@@ -52,16 +52,6 @@ impl<'a> Cursor<'a> {
     {
         match self.rest {
             [token, ..] => token.lexeme.is_word(word),
-            [] => false,
-        }
-    }
-
-    /// Whether the next token is a name, which a word is too.
-    pub fn sees_name(&self) -> bool
-        ensures { result ≡ is_name (spec.ahead (input_of self.now)) }
-    {
-        match self.rest {
-            [token, ..] => token.lexeme.is_name(),
             [] => false,
         }
     }

@@ -10,7 +10,7 @@ use qml_grammar::{Mark, Word};
 use std::alloc::{AllocError, Global};
 
 /// What a token says.
-#[derive(Debug, Drop)]
+#[derive(Drop)]
 pub enum Lexeme {
     /// A name that is no word.
     Plain(Name),

@@ -3,7 +3,7 @@ ghost use Rattle.std.specs.Prelude.{◌≡◌, ◌<◌, ◌^◌, pos};
 use std::marker::Model;
 
 /// The value of a whole number's token, from 0 to 2,147,483,647.
-#[derive(Debug, Drop)]
+#[derive(Drop)]
 pub struct Natural {
     value: u32,
 }

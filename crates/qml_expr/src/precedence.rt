@@ -5,7 +5,7 @@ use qml_ast::BinOp;
 use qml_grammar::Mark;
 
 /// A level of operators between operands, from those that bind tightest on.
-#[derive(Clone, Copy, Debug, PartialEq, Eq)]
+#[derive(Clone, Copy)]
 pub(crate) enum Precedence {
     /// `*`, `/` and `%`.
     Product,
@@ -22,7 +22,7 @@ pub(crate) enum Precedence {
 }
 
 /// What stands between two operands.
-#[derive(Clone, Copy, Debug, PartialEq, Eq)]
+#[derive(Clone, Copy)]
 pub(crate) enum Joint {
     Operator(BinOp),
     /// `&&`

@@ -2,7 +2,7 @@ use crate::lexeme::Lexeme;
 use qml_ast::Span;
 
 /// A token of a document.
-#[derive(Debug, Drop)]
+#[derive(Drop)]
 pub struct Token {
     pub lexeme: Lexeme,
     /// Where its first byte stands.

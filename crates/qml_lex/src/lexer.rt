@@ -12,7 +12,7 @@ use std::alloc::Global;
 use std::str;
 
 /// How far the tokens of a text are read.
-#[derive(Clone, Copy, Debug)]
+#[derive(Clone, Copy)]
 pub struct Scanner<'a> {
     /// The whole text.
     pub bytes: &'a [u8],

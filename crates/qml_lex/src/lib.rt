@@ -15,6 +15,6 @@ mod text;
 pub mod token;
 
 pub use lexer::{Scanner, lex};
-pub use meaning::{DecimalValue, decimal_value, integer_value, name_text, name_value, text_value};
+pub use meaning::{DecimalValue, decimal_value, integer_value, name_text, text_value};
 pub use place::end_place;
 pub use token::{Token, TokenKind, Tokens};

@@ -7,14 +7,13 @@ ghost use Rattle.qml_lex.specs.declared.token.TokenKind.TheVariants as kinds;
 use crate::bytes::digit_len;
 use crate::number::{capped_value, integer};
 use crate::text::value_bytes;
-use qml_ast::name::Name;
 use qml_ast::text::Text;
 use std::alloc::{AllocError, Global};
 use std::str;
 
 /// What a decimal says: the values of the digits before its point and of those after it. Each is
 /// 2147483647 where the digits' value is more.
-#[derive(Clone, Copy, Debug, PartialEq, Eq)]
+#[derive(Clone, Copy)]
 pub struct DecimalValue {
     pub whole: u32,
     pub fraction: u32,
@@ -29,14 +28,6 @@ pub fn name_text(text: &[u8]) -> &str
         Ok(name) => name,
         Err(_) => unreachable!(),
     }
-}
-
-/// The name that a name's text is.
-pub fn name_value(alloc: Global, text: &[u8]) -> Result<Name, AllocError>
-    requires { IsSpelled kinds.Name text.now }
-    ensures { IfOk result (λ name. name ≡ text.now) }
-{
-    Name::new(alloc, name_text(text))
 }
 
 /// The value of an integer's text.

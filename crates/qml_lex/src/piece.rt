@@ -11,7 +11,7 @@ use crate::text::{body_len, value_len};
 use crate::token::TokenKind;
 
 /// What a text begins with.
-#[derive(Clone, Copy, Debug, PartialEq, Eq)]
+#[derive(Clone, Copy)]
 pub enum Piece {
     /// Nothing: the text has no bytes.
     End,

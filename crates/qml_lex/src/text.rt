@@ -5,7 +5,7 @@ use crate::number::number;
 use std::alloc::{AllocError, Global};
 
 /// What stands inside a text.
-#[derive(Clone, Copy, Debug, PartialEq, Eq)]
+#[derive(Clone, Copy)]
 pub enum Part {
     /// A byte that stands for itself.
     Raw(u8),

@@ -4,7 +4,7 @@ use qml_ast::span::Span;
 use std::marker::Model;
 
 /// What a token is.
-#[derive(Clone, Copy, Debug, PartialEq, Eq)]
+#[derive(Clone, Copy, PartialEq, Eq)]
 pub enum TokenKind {
     /// An ASCII letter or `_`, and letters, digits and `_` after it.
     Name,
@@ -19,7 +19,7 @@ pub enum TokenKind {
 }
 
 /// A token of a text.
-#[derive(Clone, Copy, Debug, PartialEq, Eq)]
+#[derive(Clone, Copy, PartialEq, Eq)]
 pub struct Token {
     pub kind: TokenKind,
     /// The offset of its first byte, from 0 on.
@@ -31,7 +31,7 @@ pub struct Token {
 }
 
 /// The tokens of a text, in order.
-#[derive(Debug, Drop)]
+#[derive(Drop)]
 pub struct Tokens {
     tokens: Vec<Token>,
 }

@@ -1,8 +1,6 @@
-ghost use Rattle.std.specs.Prelude.{◌≡◌, ◌≢◌, ℕ, ◌≤◌, ◌^◌, ◌⊎◌, List, length, Ok, Err, IfOk, IfErr};
-ghost use Rattle.qml_ast.specs.Alike.{IsAlike};
+ghost use Rattle.std.specs.Prelude.{◌≡◌, ◌≢◌, ◌≤◌, ◌^◌, ◌⊎◌, length, Ok, Err, IfOk, IfErr};
 ghost use Rattle.qml_ast.specs.declared.document.Document.{Document};
 ghost use Rattle.qml_ast.specs.declared.fault.DocFault.TheVariants.{NoMemory};
-ghost use Rattle.qml_grammar.specs.Canonical.{document_text};
 ghost use Rattle.qml_grammar.specs.Documents as spec;
 ghost use Rattle.qml_expr.specs.Readings.{IsReading};
 ghost use Rattle.qml_expr.specs.Seen.{input_of, tokens_of};
@@ -30,9 +28,6 @@ const MAX_LEVELS: usize = 64;
 /// the engine has not, or TooDeep at the token that opens the 65th level or is the 201st node of an
 /// expression. Lines and columns count from 1 on, columns in bytes. NoMemory comes where memory runs out.
 ///
-/// The text that `print` gives for a document of some text is parsed as a document that differs from it in
-/// places at most.
-///
 /// The forms are those of the Qt 5 QML Reference (Structure of a QML Document, QML Object Attributes, Import
 /// Statements), cut to the profile of this engine.
 pub fn parse(alloc: Global, bytes: &[u8]) -> Result<Document, DocFault>
@@ -41,8 +36,6 @@ pub fn parse(alloc: Global, bytes: &[u8]) -> Result<Document, DocFault>
     ensures refused { IfErr result (HasFault bytes.now) }
     ensures spelled { IfOk result (Spells bytes.now) }
     ensures complete { (d : Document) → Spells bytes.now d → (result ≡ Ok d) ⊎ (result ≡ Err NoMemory) }
-    ensures printed { (text : List ℕ) (d : Document) → Spells text d → bytes.now ≡ document_text d →
-        IfOk result (IsAlike d) × IfErr result (λ fault. fault ≡ NoMemory) }
 {
     let tokens = tokens_of_text(alloc, bytes)?;
     read(alloc, tokens.as_slice(), end_place(bytes))

@@ -15,4 +15,3 @@ mod value;
 
 pub use document::parse;
 pub use laws::one_reading;
-pub use qml_print::print;

@@ -14,7 +14,7 @@ use qml_expr::{Cursor, Lexeme, Token};
 use qml_grammar::{Mark, Word};
 
 /// What may follow the dotted name of a type.
-#[derive(Clone, Copy, Debug, PartialEq, Eq)]
+#[derive(Clone, Copy)]
 pub(crate) enum Follower {
     /// `{`
     Brace,

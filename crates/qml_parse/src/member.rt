@@ -104,7 +104,7 @@ pub(crate) fn handled(
 }
 
 /// What a property declares before its value.
-#[derive(Debug, Drop)]
+#[derive(Drop)]
 pub(crate) struct Declared {
     /// Whether `readonly` stands before it.
     pub fixed: bool,

@@ -4,7 +4,6 @@ use Rattle.qml_ast.specs.declared.fault.DocFault.TheVariants.{NoMemory}
 use Rattle.qml_expr.specs.Seen.{tokens_of}
 use Rattle.qml_tokens.specs.Spelled.{HasFault}
 use Rattle.qml_parse.specs.Parsed.{IsReadAs}
-use Rattle.qml_parse.proofs.Printed.{never_refused, printed}
 use Rattle.qml_parse.proofs.Refusing.{told}
 use Rattle.qml_parse.proofs.Spelling.{all_read, all_spelled, complete, not_refused}
 use Rattle.qml_parse.proofs.document.parse.Goals as goal
@@ -27,14 +26,3 @@ returns-clause-complete c =
     let read : IfOk c.read.result (IsReadAs c.args.bytes.now) = all_read c.args.bytes.now (tokens_of c.in_ok-tokens.tokens.items) c.read.result c.in_ok-tokens.ensures (rw (c.as_slice.ensures.value, c.end_place.ensures) at c.read.ensures.read) in
     let refused : IfErr c.read.result (HasFault c.args.bytes.now) = told c.args.bytes.now (tokens_of c.in_ok-tokens.tokens.items) c.read.result c.in_ok-tokens.ensures (rw (c.as_slice.ensures.value, c.end_place.ensures) at c.read.ensures.refused) in
     complete c.args.bytes.now c.read.result read refused
-
-pub returns-in_err-tokens-clause-printed : goal.returns-in_err-tokens-clause-printed
-returns-in_err-tokens-clause-printed c text d spells is =
-    let wanted : c.in_err-tokens.field-0.0 ≡ NoMemory = never_refused c.args.bytes.now text d c.in_err-tokens.field-0.0 c.in_err-tokens.ensures spells is in
-    (first_of (search rules, cc, grind (arith, common_steps)), first_of (search rules, cc, grind (arith, common_steps)))
-
-pub returns-clause-printed : goal.returns-clause-printed
-returns-clause-printed c =
-    let read : IfOk c.read.result (IsReadAs c.args.bytes.now) = all_read c.args.bytes.now (tokens_of c.in_ok-tokens.tokens.items) c.read.result c.in_ok-tokens.ensures (rw (c.as_slice.ensures.value, c.end_place.ensures) at c.read.ensures.read) in
-    let refused : IfErr c.read.result (HasFault c.args.bytes.now) = told c.args.bytes.now (tokens_of c.in_ok-tokens.tokens.items) c.read.result c.in_ok-tokens.ensures (rw (c.as_slice.ensures.value, c.end_place.ensures) at c.read.ensures.refused) in
-    printed c.args.bytes.now c.read.result (all_spelled c.args.bytes.now c.read.result read) refused
