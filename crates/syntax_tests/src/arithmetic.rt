@@ -164,7 +164,7 @@ fn differing_kinds(alloc: Global) -> Result<String, Fail> {
         let value = sample.value(alloc)?;
         note(&mut report, text, to_text(alloc, &value)?.as_str(), text)?;
         if truth(&value) != *holds {
-            note(&mut report, text, "the other truth", "")?;
+            note(&mut report, text, "the other truth", "this one")?;
         }
     }
     Ok(report)
@@ -215,12 +215,16 @@ fn is_equal(alloc: Global, a: Sample, b: Sample) -> Result<bool, Fail> {
     Ok(equal(&a.copy(alloc)?, &b))
 }
 
-fn note_pairs(alloc: Global, report: &mut String, i: usize) -> Result<(), Fail> {
+fn note_pairs(
+    alloc: Global,
+    report: &mut String,
+    i: usize,
+    row: (Sample, bool, &str),
+) -> Result<(), Fail> {
     for (j, other) in KINDS.iter().enumerate() {
-        let row = KINDS[i % KINDS.len()];
         note_results(alloc, report, row, *other)?;
         if is_equal(alloc, row.0, other.0)? != (i == j) {
-            note(report, row.2, "the other equality", other.2)?;
+            note(report, row.2, "the other equality", "this one")?;
         }
     }
     Ok(())
@@ -228,8 +232,8 @@ fn note_pairs(alloc: Global, report: &mut String, i: usize) -> Result<(), Fail> 
 
 fn differing_pairs(alloc: Global) -> Result<String, Fail> {
     let mut report = String::new(alloc);
-    for i in 0..KINDS.len() {
-        note_pairs(alloc, &mut report, i)?;
+    for (i, row) in KINDS.iter().enumerate() {
+        note_pairs(alloc, &mut report, i, *row)?;
     }
     Ok(report)
 }

@@ -538,14 +538,13 @@ fn bytes_that_are_no_utf8(rt: HostRuntime) -> Result<(), Fail> {
 
 const RED: &str = r##"Rectangle { width: 2; height: 1; color: "#ff0000" }"##;
 
-/// The fault of the first `len` bytes of the document: within the text between the quotes that of the
-/// opening quote, and else that of the end.
-fn front_fault(len: usize) -> DocFault {
-    if len > 40 && len < 49 {
+/// The fault of the document's bytes in front of this column: within the text between the quotes that of
+/// the opening quote, and else that of the end.
+fn front_fault(col: u32) -> DocFault {
+    if col > 41 && col < 50 {
         let at = Span { line: 1, col: 41 };
         return DocFault::BadToken { at };
     }
-    let col = (len as u32).saturating_add(1);
     DocFault::Syntax {
         at: Span { line: 1, col },
     }
@@ -554,7 +553,7 @@ fn front_fault(len: usize) -> DocFault {
 fn differing_fronts(alloc: Global) -> Result<String, AllocError> {
     let mut report = String::new(alloc);
     for len in 0..RED.len() {
-        let wanted = told_fault(alloc, front_fault(len))?;
+        let wanted = told_fault(alloc, front_fault(len as u32 + 1))?;
         let found = answer(alloc, &RED.as_bytes()[..len])?;
         note(&mut report, "a front", found.as_str(), wanted.as_str())?;
     }

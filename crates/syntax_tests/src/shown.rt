@@ -6,19 +6,19 @@ use std::alloc::{AllocError, Global};
 
 fn operator_text(operator: BinOp) -> &'static str {
     match operator {
-        BinOp::Add => "+",
-        BinOp::Sub => "-",
-        BinOp::Mul => "*",
-        BinOp::Div => "/",
-        BinOp::Rem => "%",
-        BinOp::Lt => "<",
-        BinOp::Le => "<=",
-        BinOp::Gt => ">",
-        BinOp::Ge => ">=",
-        BinOp::Eq => "==",
-        BinOp::Ne => "!=",
-        BinOp::Eq3 => "===",
-        BinOp::Ne3 => "!==",
+        BinOp::Add => " + ",
+        BinOp::Sub => " - ",
+        BinOp::Mul => " * ",
+        BinOp::Div => " / ",
+        BinOp::Rem => " % ",
+        BinOp::Lt => " < ",
+        BinOp::Le => " <= ",
+        BinOp::Gt => " > ",
+        BinOp::Ge => " >= ",
+        BinOp::Eq => " == ",
+        BinOp::Ne => " != ",
+        BinOp::Eq3 => " === ",
+        BinOp::Ne3 => " !== ",
     }
 }
 
@@ -32,21 +32,11 @@ fn sign_text(operator: UnOp) -> &'static str {
 
 // Expressions
 
+/// Adds an expression behind a text.
 #[cycle(show_expr)]
-fn show_pair(
-    alloc: Global,
-    out: &mut String,
-    left: &Expr,
-    between: &str,
-    right: &Expr,
-) -> Result<(), AllocError> {
-    out.push_str("(")?;
-    show_expr(alloc, out, left)?;
-    out.push_str(" ")?;
-    out.push_str(between)?;
-    out.push_str(" ")?;
-    show_expr(alloc, out, right)?;
-    out.push_str(")")
+fn show_behind(alloc: Global, out: &mut String, text: &str, expr: &Expr) -> Result<(), AllocError> {
+    out.push_str(text)?;
+    show_expr(alloc, out, expr)
 }
 
 #[cycle(show_expr)]
@@ -77,28 +67,28 @@ pub(crate) fn show_expr(alloc: Global, out: &mut String, expr: &Expr) -> Result<
         Expr::Unary(operator, operand) => {
             out.push_str("(")?;
             out.push_str(sign_text(*operator))?;
-            out.push_str(" ")?;
-            show_expr(alloc, out, operand.get())?;
+            show_behind(alloc, out, " ", operand.get())?;
             out.push_str(")")
         }
         Expr::Binary(operator, left, right) => {
-            show_pair(
-                alloc,
-                out,
-                left.get(),
-                operator_text(*operator),
-                right.get(),
-            )
+            show_behind(alloc, out, "(", left.get())?;
+            show_behind(alloc, out, operator_text(*operator), right.get())?;
+            out.push_str(")")
         }
-        Expr::And(left, right) => show_pair(alloc, out, left.get(), "&&", right.get()),
-        Expr::Or(left, right) => show_pair(alloc, out, left.get(), "||", right.get()),
+        Expr::And(left, right) => {
+            show_behind(alloc, out, "(", left.get())?;
+            show_behind(alloc, out, " && ", right.get())?;
+            out.push_str(")")
+        }
+        Expr::Or(left, right) => {
+            show_behind(alloc, out, "(", left.get())?;
+            show_behind(alloc, out, " || ", right.get())?;
+            out.push_str(")")
+        }
         Expr::Cond(condition, then, otherwise) => {
-            out.push_str("(")?;
-            show_expr(alloc, out, condition.get())?;
-            out.push_str(" ? ")?;
-            show_expr(alloc, out, then.get())?;
-            out.push_str(" : ")?;
-            show_expr(alloc, out, otherwise.get())?;
+            show_behind(alloc, out, "(", condition.get())?;
+            show_behind(alloc, out, " ? ", then.get())?;
+            show_behind(alloc, out, " : ", otherwise.get())?;
             out.push_str(")")
         }
     }

@@ -126,19 +126,13 @@ fn push_declared(
 
 // Objects
 
-/// Adds a value, or that there is none, and its place.
+/// Adds a value and its place.
 #[cycle(told)]
-fn push_init(
-    alloc: Global,
-    told: &mut String,
-    init: Option<&Init>,
-    at: Span,
-) -> Result<(), AllocError> {
+fn push_init(alloc: Global, told: &mut String, init: &Init, at: Span) -> Result<(), AllocError> {
     told.push_str(" = ")?;
     match init {
-        Some(Init::Expr(expr)) => push_expr(alloc, told, expr.get())?,
-        Some(Init::Object(object)) => push_decl(alloc, told, object.get())?,
-        None => told.push_str("nothing")?,
+        Init::Expr(expr) => push_expr(alloc, told, expr.get())?,
+        Init::Object(object) => push_decl(alloc, told, object.get())?,
     }
     push_at(alloc, told, at)
 }
@@ -157,7 +151,10 @@ fn push_member(alloc: Global, told: &mut String, member: &Member) -> Result<(), 
         } => {
             push_declared(alloc, told, *fixed, kind, *kind_span)?;
             push_word(alloc, told, name.as_str(), *span)?;
-            push_init(alloc, told, init.as_ref(), *value_span)
+            match init {
+                Some(init) => push_init(alloc, told, init, *value_span),
+                None => push_word(alloc, told, " = nothing", *value_span),
+            }
         }
         Member::Init {
             path,
@@ -166,7 +163,7 @@ fn push_member(alloc: Global, told: &mut String, member: &Member) -> Result<(), 
             span,
         } => {
             push_path(alloc, told, path, *span)?;
-            push_init(alloc, told, Some(init), *value_span)
+            push_init(alloc, told, init, *value_span)
         }
         Member::Child(child) => push_decl(alloc, told, child),
         _ => push_plain(alloc, told, member),
