@@ -2,7 +2,7 @@ ghost use Rattle.std.specs.Prelude.{◌≡◌, ℕ, ◌+◌, ◌^◌, ◌<◌, t
 ghost use Rattle.timers.specs.Timer.{start_time, first_time, after_firing, first_after, start_after, skipped, start_waits, IsStartInTime, IsWithinBounds, released};
 
 /// A firing for which a timer asked when it started, beside those at its due times.
-#[derive(Clone, Copy, PartialEq, Eq)]
+#[derive(Clone, Copy)]
 pub struct StartFiring {
     /// When it was asked for, and so the time from which it is due, in milliseconds.
     pub time: u64,
@@ -11,7 +11,7 @@ pub struct StartFiring {
 }
 
 /// A timer that runs.
-#[derive(Clone, Copy, PartialEq, Eq)]
+#[derive(Clone, Copy)]
 pub struct RunningTimer {
     /// The milliseconds between two firings.
     pub interval: u32,
