@@ -1,5 +1,4 @@
 use Rattle.std.proofs.Common.{rules}
-use Rattle.std.proofs.lemmas.Grind.{common_steps}
 use Rattle.timers.specs.Schedule.{IsFirstDue, IsNoneDue}
 use Rattle.timers.proofs.Firsts.{first_is, none_is}
 use Rattle.timers.proofs.schedule.Timers.due.Goals as goal
