@@ -1,5 +1,7 @@
 -- What the calls that move cells between lists leave, from what they know.
-use Rattle.std.proofs.Common.{◌≡◌, ℕ, zero, suc, ◌+◌, ◌-◌, ◌<◌, List, [], ◌∷◌, ◌++◌, length, set, Option, Some, None, unwrap_or, IsSome, option_and_then, refl, ap, sym, subst, ◌∙◌, arith}
+use Rattle.std.proofs.Common.{◌≡◌, ℕ, zero, suc, ◌+◌, ◌-◌, ◌<◌, List, [], ◌∷◌, ◌++◌, length, set, Option, Some, None, unwrap_or, IsSome, is_some, Bool, true, option_and_then, refl, ap, sym, subst, ◌∙◌, arith}
+use Rattle.std.specs.Bool.{IsTrue}
+use Rattle.std.specs.Prelude.{◌↔◌}
 use Rattle.std.specs.List.{slice_get, insert, remove}
 use Rattle.std.proofs.lemmas.List.Edits.{insert_end}
 use Rattle.std.proofs.lemmas.Option.{slice_get_past, slice_get_within, none-some, same_Some}
@@ -25,6 +27,11 @@ has_list : (slot : Option (List ℕ)) (place cell : ℕ) → slice_get (unwrap_o
 has_list None place cell e = absurd (none-some cell e)
 has_list (Some xs) place cell e = refl
 
+-- a link that is there
+linked_some : (o : Option Link) → is_some o ≡ true → (link : Link) × (o ≡ Some link)
+linked_some None e = absurd (cc)
+linked_some (Some link) e = (link, refl)
+
 module _ (cells : Slots Cell) (ends : Slots Ends) (holds : Represents cells.slots ends.slots (lists_from cells.slots ends.slots)) where
   -- what a cell of a list knows
   pub known : (list i cell : ℕ) → StandsAt (chains_of cells ends) list i cell → link_in cells.slots cell ≡ Some (link_at list (cells_in (lists_from cells.slots ends.slots) list) i)
@@ -33,6 +40,13 @@ module _ (cells : Slots Cell) (ends : Slots Ends) (holds : Represents cells.slot
   -- a cell that knows of no list is in none
   pub not_linked : (cell : ℕ) → IsLinked (chains_of cells ends) cell → link_in cells.slots cell ≡ None → ⊥
   not_linked cell linked e = none-some _ (sym e ∙ known linked.0 linked.1.0 cell linked.1.1)
+
+  -- and one that knows of a list stands there
+  pub is_linked_where : (cell : ℕ) (answer : Bool) → answer ≡ is_some (link_in cells.slots cell) → IsTrue answer ↔ IsLinked (chains_of cells ends) cell
+  is_linked_where cell answer answer_is = (
+    λ yes. let found = linked_some (link_in cells.slots cell) (sym answer_is ∙ yes) in let stands = holds.stands cell found.0 found.1 in (found.0.list, (stands.0, stands.1)),
+    λ linked. answer_is ∙ ap is_some (known linked.0 linked.1.0 cell linked.1.1),
+  )
 
   pub StandFor-push_back : (list cell : ℕ) (previous : Option ℕ) (new_cells : Slots Cell) (new_ends : Slots Ends) → HasList (chains_of cells ends) list
       → HasCell (chains_of cells ends) cell → IsLoose (chains_of cells ends) cell → previous ≡ last_in ends.slots list

@@ -1,5 +1,8 @@
 pub mod Places
 mod Pools
+mod Rings
+mod Counts
+mod Freeing
 mod Linking
 mod Walking
 mod Neighbours

@@ -4,14 +4,15 @@ use Rattle.std.specs.List.{slice_get}
 use Rattle.std.proofs.lemmas.List.{length-map, map-set}
 use Rattle.std.proofs.lemmas.Option.{none-some, same_Some, slice_get-map}
 use Rattle.std.proofs.lemmas.Bool.{cases_eq}
-use Rattle.links.specs.Slots.{Slots, placed}
-use Rattle.links.specs.Chains.{cells_in, HasList, HasCell, IsLoose}
+use Rattle.links.specs.Slots.{Slots, placed, empty_count}
+use Rattle.links.specs.Chains.{cells_in, HasList, HasCell, freed_lists, freed_cells, IsLoose}
 use Rattle.links.specs.declared.cell.Link.{Link}
 use Rattle.links.specs.declared.cell.Ends.{Ends}
 use Rattle.links.specs.declared.cell.Cell.{Cell}
 use Rattle.links.specs.declared.cell.Cell.TheVariants.{Loose}
 use Rattle.links.specs.Cells.{place_in, link_in, lists_from, chains_of, ends_of, link_at, Represents}
 use Rattle.links.proofs.Places.{slice_get-placed_same, slice_get-placed_other, slice_get-set_same, map-placed}
+use Rattle.links.proofs.Counts.{empty-shown, empty-marked}
 use Rattle.links.proofs.Pools.{occupied, occupied_within}
 use Rattle.links.proofs.Linking.{link_in-set_same, link_in-set_other}
 use Rattle.links.proofs.Relinking.{cells_in-set_other}
@@ -77,6 +78,16 @@ module _ (cells : Slots Cell) (ends : Slots Ends) (holds : Represents cells.slot
   pub unused_cell : (number : ℕ) → ((other : Cell) → slice_get cells.slots number ≢ Some (Some other)) → ¬ HasCell (chains_of cells ends) number
   unused_cell number vacant e = let found = occupied cells.slots number (is_there cells.slots number e) in vacant found.0 found.1
 
+  -- a number without a cell
+  pub vacant_cell : (number : ℕ) → ¬ HasCell (chains_of cells ends) number → (other : Cell) → slice_get cells.slots number ≢ Some (Some other)
+  vacant_cell number unused other e = unused (slice_get-map is_some cells.slots number ∙ ap (option_map is_some) e)
+
+  pub fits_cell : (number : ℕ) → number ≤ length (map is_some cells.slots) → number ≤ length cells.slots
+  fits_cell number within = omega (arith, within, length-map cells.slots is_some)
+
+  pub room_cell : (number : ℕ) → (number ≡ length (map is_some cells.slots) → freed_cells (chains_of cells ends) < cells.spare) → number ≡ length cells.slots → empty_count cells.slots < cells.spare
+  room_cell number room end = let some = room (end ∙ sym (length-map cells.slots is_some)) in omega (arith, some, empty-marked cells.slots)
+
   pub freed_cell : (number : ℕ) → slice_get cells.slots number ≡ Some None → slice_get (map is_some cells.slots) number ≡ Some false
   freed_cell number e = slice_get-map is_some cells.slots number ∙ ap (option_map is_some) e
 
@@ -115,6 +126,26 @@ module _ (cells : Slots Cell) (ends : Slots Ends) (holds : Represents cells.slot
       let found = occupied (lists_from cells.slots ends.slots) number has in
       vacant (ends_of found.0) (ap (λ es. slice_get es number) holds.ends_known
       ∙ (slice_get-map (option_map ends_of) (lists_from cells.slots ends.slots) number ∙ ap (option_map (option_map ends_of)) found.1))
+
+  -- a number without a list
+  used_slot_list : (slot : Option (Option (List ℕ))) (other : Ends) → option_map (option_map ends_of) slot ≡ Some (Some other) → IsSome (unwrap_or slot None)
+  used_slot_list None other e = absurd (none-some (Some other) e)
+  used_slot_list (Some None) other e = absurd (none-some other (same_Some _ _ e))
+  used_slot_list (Some (Some xs)) other e = refl
+
+  pub vacant_list : (number : ℕ) → ¬ HasList (chains_of cells ends) number → (other : Ends) → slice_get ends.slots number ≢ Some (Some other)
+  vacant_list number unused other e =
+      unused (used_slot_list (slice_get (lists_from cells.slots ends.slots) number) other
+      (sym (ap (λ es. slice_get es number) holds.ends_known ∙ slice_get-map (option_map ends_of) (lists_from cells.slots ends.slots) number) ∙ e))
+
+  pub fits_list : (number : ℕ) → number ≤ length (lists_from cells.slots ends.slots) → number ≤ length ends.slots
+  fits_list number within = omega (arith, within, length_ends)
+
+  pub room_list : (number : ℕ) → (number ≡ length (lists_from cells.slots ends.slots) → freed_lists (chains_of cells ends) < ends.spare) → number ≡ length ends.slots → empty_count ends.slots < ends.spare
+  room_list number room end =
+      let some = room (end ∙ length_ends) in
+      let same : empty_count ends.slots ≡ empty_count (lists_from cells.slots ends.slots) = ap empty_count holds.ends_known ∙ empty-shown ends_of (lists_from cells.slots ends.slots) in
+      omega (arith, some, same)
 
   freed_slot_list : (slot : Option (Option (List ℕ))) → option_map (option_map ends_of) slot ≡ Some None → slot ≡ Some None
   freed_slot_list None e = absurd (none-some None e)

@@ -1,5 +1,5 @@
 -- What a list has at each place, after it was changed at one.
-use Rattle.std.proofs.Common.{◌≡◌, ◌≢◌, ◌⊎◌, ⊎_elim, inl, inr, ℕ, zero, suc, ◌<◌, ◌≤◌, List, [], ◌∷◌, ◌++◌, length, set, map, Option, Some, None, unwrap_or, refl, ap, sym, ◌∙◌, arith}
+use Rattle.std.proofs.Common.{◌≡◌, ◌≢◌, ℕ, zero, suc, ◌<◌, ◌≤◌, List, [], ◌∷◌, ◌++◌, length, set, map, Option, Some, None, unwrap_or, refl, ap, sym, ◌∙◌, arith}
 use Rattle.std.specs.List.{slice_get, insert, remove}
 use Rattle.std.proofs.lemmas.Option.{unwrap_or-slice_get}
 use Rattle.std.proofs.lemmas.List.{set-get_or}
@@ -48,26 +48,6 @@ pub placed_end : {A : Type 0} (xs : List A) (n : ℕ) (x : A) → n ≡ length x
 placed_end [] n x e = refl
 placed_end (y ∷ ys) zero x e = absurd (omega arith)
 placed_end (y ∷ ys) (suc n) x e = ap (λ zs. y ∷ zs) (placed_end ys n x (omega arith))
-
--- one more element at the end
-pub slice_get-push_end : {A : Type 0} (xs : List A) (x : A) → slice_get (xs ++ x ∷ []) (length xs) ≡ Some x
-slice_get-push_end [] x = refl
-slice_get-push_end (y ∷ ys) x = slice_get-push_end ys x
-
-pub slice_get-push_below : {A : Type 0} (xs : List A) (x : A) (i : ℕ) → i < length xs → slice_get (xs ++ x ∷ []) i ≡ slice_get xs i
-slice_get-push_below [] x i h = absurd (omega arith)
-slice_get-push_below (y ∷ ys) x zero h = refl
-slice_get-push_below (y ∷ ys) x (suc i) h = slice_get-push_below ys x i (omega arith)
-
--- a place of it is one of the list, or the new one
-pub push_cases : {A : Type 0} (xs : List A) (x y : A) (i : ℕ) → slice_get (xs ++ x ∷ []) i ≡ Some y
-    → ((i < length xs) × (slice_get xs i ≡ Some y)) ⊎ ((i ≡ length xs) × (y ≡ x))
-push_cases [] x y zero e = inr (refl, cc)
-push_cases [] x y (suc i) e = absurd (cc)
-push_cases (z ∷ xs) x y zero e = inl (omega arith, e)
-push_cases (z ∷ xs) x y (suc i) e =
-    ⊎_elim (λ (p : (i < length xs) × (slice_get xs i ≡ Some y)). inl (omega arith, p.1))
-    (λ (p : (i ≡ length xs) × (y ≡ x)). inr (ap suc p.0, p.1)) (push_cases xs x y i e)
 
 -- a write of what stands there, or of nothing past the end
 pub set_same : {A : Type 0} (xs : List (Option A)) (i : ℕ) (slot : Option A) → unwrap_or (slice_get xs i) None ≡ slot → set xs i slot ≡ xs

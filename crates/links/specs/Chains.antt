@@ -1,5 +1,6 @@
 -- Lists of cells, and what cells and lists there are.
-use Rattle.std.specs.Prelude.{◌≡◌, ℕ, Bool, true, List, [], Option, Some, None, IsSome, slice_get, unwrap_or}
+use Rattle.std.specs.Prelude.{◌≡◌, ℕ, Bool, true, not, List, [], Option, Some, None, IsSome, count_by, slice_get, unwrap_or}
+use Rattle.links.specs.Slots.{empty_count}
 
 -- the cells of each list in order, by the list's number, and nothing for a number that no list has;
 -- which cell numbers are used; and how many lists and cells may be added
@@ -20,6 +21,13 @@ HasList chains list = IsSome (unwrap_or (slice_get chains.lists list) None)
 -- there is a cell of that number
 abbrev pub HasCell : Chains → ℕ → Type 0
 HasCell chains cell = slice_get chains.cells cell ≡ Some true
+
+-- how many lists and cells were freed whose numbers are not used again
+abbrev pub freed_lists : Chains → ℕ
+freed_lists chains = empty_count chains.lists
+
+abbrev pub freed_cells : Chains → ℕ
+freed_cells chains = count_by not chains.cells
 
 -- the list has the cell at this place, where its first is at place 0
 abbrev pub StandsAt : Chains → ℕ → ℕ → ℕ → Type 0

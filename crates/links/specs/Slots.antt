@@ -1,5 +1,5 @@
--- Numbered slots, of which some are empty, and how a pool keeps them.
-use Rattle.std.specs.Prelude.{◌≡◌, ℕ, zero, suc, ◌+◌, ◌≤◌, List, [], ◌∷◌, length, Option, Some, None, slice_get, refl}
+-- Numbered slots, of which some are empty.
+use Rattle.std.specs.Prelude.{◌≡◌, ℕ, zero, suc, ◌+◌, List, [], ◌∷◌, Option, Some, None, slice_get, refl}
 use Rattle.std.specs.Coded.{Coded, code_by, coded×, coded_ℕ, coded_list, coded_option}
 
 -- the value or nothing at each number from 0 on, and how many values may be added
@@ -23,10 +23,8 @@ placed (y ∷ ys) (suc i) x = y ∷ placed ys i x
 pub record IsApart (xs : List ℕ) : Type 0 where
   pub place : (i j x : ℕ) → slice_get xs i ≡ Some x → slice_get xs j ≡ Some x → i ≡ j
 
--- freed numbers are empty slots, and the capacities of both lists are enough for the spare values
-pub record HasRoom {T : Type 0} (slots : List (Option T)) (freed : List ℕ) (spare slots_capacity freed_capacity : ℕ) : Type 0 where
-  pub apart : IsApart freed
-  pub vacant : (i x : ℕ) → slice_get freed i ≡ Some x → slice_get slots x ≡ Some None
-  pub slots_room : length slots + spare ≤ length freed + slots_capacity
-  pub freed_room : length slots + spare ≤ length freed + freed_capacity
-  pub freed_enough : length slots ≤ freed_capacity
+-- how many slots are empty
+abbrev pub empty_count : {T : Type 0} → List (Option T) → ℕ
+empty_count [] = 0
+empty_count (None ∷ slots) = 1 + empty_count slots
+empty_count (Some value ∷ slots) = empty_count slots

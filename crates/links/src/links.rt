@@ -1,11 +1,14 @@
-ghost use Rattle.std.specs.Prelude.{◌≡◌, ◌≢◌, ℕ, ◌+◌, ◌-◌, ◌<◌, ◌≤◌, max, true, false, [], ◌∷◌, ◌++◌, length, slice_get, slice_set, insert, remove, OnOk, OnErr};
+ghost use Rattle.std.specs.Prelude.{◌≡◌, ◌≢◌, ◌↔◌, ℕ, ◌+◌, ◌-◌, ◌<◌, ◌≤◌, max, true, false, [], ◌∷◌, ◌++◌, length, slice_get, slice_set, insert, remove, OnOk, OnErr, IsTrue};
 ghost use Rattle.links.specs.Slots.{placed};
-ghost use Rattle.links.specs.Chains.{cells_in, HasList, HasCell, StandsAt, IsLinked, IsLoose, AreDisjoint};
+ghost use Rattle.links.specs.Chains.{cells_in, HasList, HasCell, freed_lists, freed_cells, StandsAt, IsLinked, IsLoose, AreDisjoint};
 
-use crate::cell::{Cell, Ends, Link, last_of, link_of, put, take};
+use crate::cell::{Cell, Ends, Link, ends_at, last_of, link_of, put, take};
+use crate::packed::{PackedCell, PackedEnds};
 use crate::pool::Pool;
+use crate::slot::Slot;
 use std::alloc::{AllocError, Global};
 use std::marker::Model;
+use std::mem::size_of;
 
 /// Lists of cells, where each cell is in one list at most. Lists and cells go by numbers. Contracts
 /// see the cells of each list in order, which numbers cells have, and how many more lists and cells
@@ -14,8 +17,8 @@ use std::marker::Model;
 /// Only `reserve` takes memory, and each other call takes the same time however long the lists are.
 #[derive(Drop)]
 pub struct Links {
-    cells: Pool<Cell>,
-    lists: Pool<Ends>,
+    cells: Pool<PackedCell>,
+    lists: Pool<PackedEnds>,
 }
 
 impl Model for Links {
@@ -29,6 +32,20 @@ impl Model for Links {
 
     ghost invariant = { λ l. Represents l.cells.slots l.lists.slots
         (lists_from l.cells.slots l.lists.slots) };
+}
+
+const _: () = prove!(size_of::<Slot<PackedCell>>() == 16);
+
+const _: () = prove!(size_of::<Slot<PackedEnds>>() == 12);
+
+/// The ends of a list without cells.
+fn no_cells() -> PackedEnds
+    ensures { result ≡ record { first = None; last = None } }
+{
+    PackedEnds::new(Ends {
+        first: None,
+        last: None,
+    })
 }
 
 impl Links {
@@ -81,10 +98,22 @@ impl Links {
             → result ≡ length self.old.lists }
         ensures disjoint { AreDisjoint self.new }
     {
-        self.lists.add(Ends {
-            first: None,
-            last: None,
-        })
+        self.lists.add(no_cells())
+    }
+
+    /// Adds an empty list under a number that no list has: that of a list that was freed, or the next.
+    /// For the next there must be room beside the numbers of the lists that were freed.
+    pub fn add_list_at(&mut self, list: usize)
+        requires unused { ¬ HasList self.old list }
+        requires within { list ≤ length self.old.lists }
+        requires room { list ≡ length self.old.lists → freed_lists self.old < self.old.spare_lists }
+        ensures after { self.new ≡ record self.old {
+          lists = placed self.old.lists list (Some []);
+          spare_lists = self.old.spare_lists - 1;
+        } }
+        ensures disjoint { AreDisjoint self.new }
+    {
+        self.lists.add_at(list, no_cells());
     }
 
     /// Adds a cell that is in no list, and gives its number, which no cell had.
@@ -104,7 +133,23 @@ impl Links {
             → result ≡ length self.old.cells }
         ensures disjoint { AreDisjoint self.new }
     {
-        self.cells.add(Cell::Loose)
+        self.cells.add(PackedCell::new(Cell::Loose))
+    }
+
+    /// Adds a cell that is in no list under a number that no cell has: that of a cell that was freed,
+    /// or the next. For the next there must be room beside the numbers of the cells that were freed.
+    pub fn add_cell_at(&mut self, cell: usize)
+        requires unused { ¬ HasCell self.old cell }
+        requires within { cell ≤ length self.old.cells }
+        requires room { cell ≡ length self.old.cells → freed_cells self.old < self.old.spare_cells }
+        ensures after { self.new ≡ record self.old {
+          cells = placed self.old.cells cell true;
+          spare_cells = self.old.spare_cells - 1;
+        } }
+        ensures loose { IsLoose self.new cell }
+        ensures disjoint { AreDisjoint self.new }
+    {
+        self.cells.add_at(cell, PackedCell::new(Cell::Loose));
     }
 
     /// Takes a cell away that is in no list. There is then one more to spare.
@@ -200,7 +245,7 @@ impl Links {
         ensures first { result ≡ slice_get (cells_in self.now.lists list) 0 }
         ensures disjoint { AreDisjoint self.now }
     {
-        self.lists.get(list)?.first
+        ends_at(&self.lists, list)?.first
     }
 
     /// The cell after a cell in the list that has it, or None where it is the last, or in no list.
@@ -211,5 +256,13 @@ impl Links {
         ensures disjoint { AreDisjoint self.now }
     {
         link_of(&self.cells, cell)?.next
+    }
+
+    /// Whether a cell is in a list. It is in none where there is no such cell.
+    pub fn is_linked(&self, cell: usize) -> bool
+        ensures linked { IsTrue result ↔ IsLinked self.now cell }
+        ensures disjoint { AreDisjoint self.now }
+    {
+        link_of(&self.cells, cell).is_some()
     }
 }
