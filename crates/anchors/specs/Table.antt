@@ -9,7 +9,7 @@ use Rattle.anchors.specs.declared.row.Row.TheVariants.{Fill, Center, NearAndFar,
 use Rattle.anchors.specs.declared.table.Overflow.{Overflow}
 
 -- the row that the lines choose; where near and far are tied the centre is ignored
-abbrev pub row_of_lines : Option ℤ → Option ℤ → Option Target → Row
+abbrev pub row_of_lines : Option ℤ → Option ℤ → Option Target → Row Target ℤ
 row_of_lines (Some near) (Some far) center = NearAndFar near far
 row_of_lines (Some near) None None = Near near
 row_of_lines None (Some far) None = Far far
@@ -19,17 +19,17 @@ row_of_lines None None (Some center) = Center center
 row_of_lines None None None = Free
 
 -- the row of an item that is centred in another, or else tied by lines
-abbrev pub row_unfilled : Option Target → AxisRecord → Row
+abbrev pub row_unfilled : Option Target → AxisRecord → Row Target ℤ
 row_unfilled (Some target) axis = Center target
 row_unfilled None axis = row_of_lines axis.near axis.far axis.center
 
 -- the row of a record's fill, or else of the rest
-abbrev pub row_by_fill : Option Target → AxisRecord → Row
+abbrev pub row_by_fill : Option Target → AxisRecord → Row Target ℤ
 row_by_fill (Some target) axis = Fill target
 row_by_fill None axis = row_unfilled axis.center_in axis
 
 -- the row of a record: fill wins over centerIn, which wins over lines
-abbrev pub row_of : AxisRecord → Row
+abbrev pub row_of : AxisRecord → Row Target ℤ
 row_of axis = row_by_fill axis.fill axis
 
 -- where the near line stands: its margin after the line that it is tied to
@@ -65,7 +65,7 @@ abbrev pub filled_size : Target → AxisRecord → ℤ
 filled_size target axis = target.size -ℤ axis.near_margin -ℤ axis.far_margin
 
 -- the place, in each row
-abbrev pub place_in : Row → AxisRecord → Option ℤ
+abbrev pub place_in : Row Target ℤ → AxisRecord → Option ℤ
 place_in (Fill target) axis = Some (near_line target.place axis)
 place_in (Center target) axis = Some (centered_place target axis)
 place_in (NearAndFar near far) axis = Some (near_line near axis)
@@ -76,7 +76,7 @@ place_in (FarAndCenter far center) axis = Some (place_from_far far center axis)
 place_in Free axis = None
 
 -- the size, in each row that gives one
-abbrev pub size_in : Row → AxisRecord → Option ℤ
+abbrev pub size_in : Row Target ℤ → AxisRecord → Option ℤ
 size_in (Fill target) axis = Some (filled_size target axis)
 size_in (Center target) axis = None
 size_in (NearAndFar near far) axis = Some (far_line far axis -ℤ near_line near axis)

@@ -1,6 +1,6 @@
 /// What an item is anchored to, in pixels of its parent: another item, whose lines are at `place` and
 /// `place + size` with the centre between them, or a line.
-#[derive(Clone, Copy, Debug, PartialEq, Eq)]
+#[derive(Clone, Copy)]
 pub struct Target {
     /// The near line: left or top.
     pub place: i64,
@@ -9,7 +9,7 @@ pub struct Target {
 }
 
 /// How an item is anchored on one axis. All lengths are in pixels.
-#[derive(Clone, Copy, Debug, PartialEq, Eq)]
+#[derive(Clone, Copy)]
 pub struct AxisRecord {
     /// The item that is filled.
     pub fill: Option<Target>,
@@ -33,7 +33,7 @@ pub struct AxisRecord {
 }
 
 /// What is asked of an axis.
-#[derive(Clone, Copy, Debug, PartialEq, Eq)]
+#[derive(Clone, Copy)]
 pub enum AxisColumn {
     /// The x or y.
     Place,

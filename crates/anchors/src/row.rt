@@ -1,47 +1,42 @@
 ghost use Rattle.std.specs.Prelude.{◌≡◌};
-ghost use Rattle.anchors.specs.Table.{row_of};
+ghost use Rattle.anchors.specs.Rows.{gives_size};
 
-use crate::axis::{AxisRecord, Target};
-
-/// What decides an item's place and size on one axis.
+/// What decides an item's place and size on one axis: each anchor that counts, with the target or the
+/// line that it is tied to.
 #[derive(Clone, Copy)]
-pub(crate) enum Row {
+pub enum Row<T, L> {
     /// Both lines follow those of the target.
-    Fill(Target),
+    Fill(T),
     /// The centre follows that of the target.
-    Center(Target),
+    Center(T),
     /// Each line follows one of its own.
-    NearAndFar { near: i64, far: i64 },
+    NearAndFar { near: L, far: L },
     /// The left or top line follows this one.
-    Near(i64),
+    Near(L),
     /// The right or bottom line follows this one.
-    Far(i64),
+    Far(L),
     /// The left or top line and the centre are tied.
-    NearAndCenter { near: i64, center: Target },
+    NearAndCenter { near: L, center: T },
     /// The right or bottom line and the centre are tied.
-    FarAndCenter { far: i64, center: Target },
+    FarAndCenter { far: L, center: T },
     /// Nothing is tied.
     Free,
 }
 
-/// The row of a record: `fill` wins over `center_in`, which wins over the lines, and a centre
-/// counts where one of the lines beside it is free.
-pub(crate) fn row_of(axis: &AxisRecord) -> Row
-    ensures { result ≡ row_of axis.now }
-{
-    if let Some(target) = axis.fill {
-        return Row::Fill(target);
-    }
-    if let Some(target) = axis.center_in {
-        return Row::Center(target);
-    }
-    match (axis.near, axis.far, axis.center) {
-        (Some(near), Some(far), _) => Row::NearAndFar { near, far },
-        (Some(near), None, Some(center)) => Row::NearAndCenter { near, center },
-        (None, Some(far), Some(center)) => Row::FarAndCenter { far, center },
-        (Some(near), None, None) => Row::Near(near),
-        (None, Some(far), None) => Row::Far(far),
-        (None, None, Some(center)) => Row::Center(center),
-        (None, None, None) => Row::Free,
+impl<T: Copy, L: Copy> Row<T, L> {
+    /// Whether the row gives a size beside the place.
+    pub fn gives_size(&self) -> bool
+        ensures { result ≡ gives_size self.now }
+    {
+        match self {
+            Row::Fill(_) => true,
+            Row::NearAndFar { .. } => true,
+            Row::NearAndCenter { .. } => true,
+            Row::FarAndCenter { .. } => true,
+            Row::Center(_) => false,
+            Row::Near(_) => false,
+            Row::Far(_) => false,
+            Row::Free => false,
+        }
     }
 }

@@ -2,10 +2,11 @@ ghost use Rattle.std.specs.Prelude.{◌≡◌, neg_ℤ, pos, ◌^◌, ◌+ℤ◌
 ghost use Rattle.anchors.specs.Table.{near_line, far_line, twice_middle, size_from_near, size_from_far, place_from_far, centered_place, filled_size, place_in, size_in, value_of, answer_of};
 
 use crate::axis::{AxisColumn, AxisRecord, Target};
-use crate::row::{Row, row_of};
+use crate::row::Row;
+use crate::walk::row_of;
 
 /// A place or a size lies outside of the range of an `i32`.
-#[derive(Clone, Copy, Debug, PartialEq, Eq)]
+#[derive(Clone, Copy, PartialEq, Eq)]
 pub struct Overflow;
 
 /// Where the near line stands if it is tied to this one.
@@ -86,7 +87,7 @@ fn filled_size(target: Target, axis: &AxisRecord) -> i128
 }
 
 /// The place that a row gives.
-fn place_in(row: Row, axis: &AxisRecord) -> Option<i128>
+fn place_in(row: Row<Target, i64>, axis: &AxisRecord) -> Option<i128>
     ensures { result ≡ place_in row axis.now }
 {
     match row {
@@ -102,7 +103,7 @@ fn place_in(row: Row, axis: &AxisRecord) -> Option<i128>
 }
 
 /// The size that a row gives.
-fn size_in(row: Row, axis: &AxisRecord) -> Option<i128>
+fn size_in(row: Row<Target, i64>, axis: &AxisRecord) -> Option<i128>
     ensures { result ≡ size_in row axis.now }
 {
     match row {

@@ -1,3 +1,5 @@
+mod Clips
+mod Spans
 mod Indices
 pub mod Painted
 pub mod Ordered

@@ -1,3 +1,4 @@
 pub mod Span
+pub mod Clip
 pub mod Rectangle
 pub mod PaintOrder

@@ -1,5 +1,5 @@
 /// A rectangle of one colour, from an item's top left corner.
-#[derive(Clone, Copy, Debug, PartialEq, Eq)]
+#[derive(Clone, Copy, PartialEq, Eq)]
 pub struct RectPart {
     /// The first column, in pixels from the item's left edge.
     pub x: i32,
@@ -14,7 +14,7 @@ pub struct RectPart {
 }
 
 /// What a rectangle is painted as, in the order of painting.
-#[derive(Clone, Copy, Debug, PartialEq, Eq)]
+#[derive(Clone, Copy, PartialEq, Eq)]
 pub enum Rects {
     /// Nothing is painted.
     Zero,

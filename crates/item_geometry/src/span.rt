@@ -1,10 +1,10 @@
 ghost use Rattle.std.specs.Prelude.{◌≡◌, ◌-ℤ◌, ◌↔◌, IsOk, IfOk, FitsSigned};
 ghost use Rattle.std.specs.Int.{int_min, int_max, w32};
-ghost use Rattle.item_geometry.specs.Span.{end_of};
+ghost use Rattle.item_geometry.specs.Span.{end_of, union_of};
 
 /// What an item takes of one axis, in pixels: it begins at `at` and ends at the sum of `at` and `len`,
 /// which need not be an `i32`. A length below 0 ends it before it begins.
-#[derive(Clone, Copy, Debug, PartialEq, Eq)]
+#[derive(Clone, Copy, PartialEq, Eq)]
 pub struct Span1 {
     /// Where it begins, in pixels.
     pub at: i32,
@@ -13,7 +13,7 @@ pub struct Span1 {
 }
 
 /// The length of a span is no `i32`.
-#[derive(Clone, Copy, Debug, PartialEq, Eq)]
+#[derive(Clone, Copy, PartialEq, Eq)]
 pub struct Overflow;
 
 /// Where a span ends, in pixels.
@@ -26,6 +26,9 @@ fn end(span: Span1) -> i64
 /// The span from where the first of the two begins, which is its place `at`, to where the last of them
 /// ends. `Overflow` says that its length is no `i32`; its place always is one.
 pub fn union(a: Span1, b: Span1) -> Result<Span1, Overflow>
+    ensures answer { result ≡ union_of a b }
+
+    // The same by its parts.
     ensures begins { IfOk result (λ both. both.at ≡ int_min a.at b.at) }
     ensures ends { IfOk result (λ both. end_of both ≡ int_max (end_of a) (end_of b)) }
     ensures fits { IsOk result

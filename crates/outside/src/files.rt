@@ -5,7 +5,7 @@ ghost use Rattle.outside.specs.Store.{Store, Answers};
 use std::alloc::Global;
 
 /// How a fetch of a file went.
-#[derive(Clone, Copy, Debug, PartialEq, Eq)]
+#[derive(Clone, Copy, PartialEq, Eq)]
 pub enum Fetch {
     /// The buffer has the whole file.
     Found,

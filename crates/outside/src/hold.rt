@@ -1,5 +1,5 @@
 /// A moment at which a thread asks whether it may go on.
-#[derive(Clone, Copy, Debug, PartialEq, Eq)]
+#[derive(Clone, Copy, PartialEq, Eq)]
 pub enum HoldPoint {
     /// The GUI thread, before a command.
     Command,
@@ -16,7 +16,7 @@ pub trait Hold {
 }
 
 /// Holds nobody.
-#[derive(Clone, Copy, Debug, PartialEq, Eq)]
+#[derive(Clone, Copy, PartialEq, Eq)]
 pub struct NoHold;
 
 impl Hold for NoHold {

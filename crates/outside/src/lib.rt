@@ -18,6 +18,3 @@ pub use memory_files::MemFiles;
 pub use memory_sink::MemSink;
 pub use sink::{Sink, SinkFailed, write_whole};
 pub use writer_sink::WriterSink;
-
-#[cfg(test)]
-mod tests;

@@ -2,7 +2,7 @@
 use Rattle.std.proofs.Common.{◌≡◌, ℕ, ◌*◌, ◌/◌, ◌%◌, ◌^◌, ◌<◌, ◌≤◌, List, [], ◌∷◌, ◌++◌, length, get_or, cond, sym, ap, ◌∙◌, arith}
 use Rattle.std.proofs.lemmas.Nat.{div_below, mod_below}
 use Rattle.rect_raster.specs.declared.area.Area.{Area}
-use Rattle.rect_raster.specs.declared.clip_rect.ClipRect.{ClipRect}
+use Rattle.item_geometry.specs.declared.clip_rect.ClipRect.{ClipRect}
 use Rattle.rect_raster.specs.Picture.{Picture, picture_of, byte_count}
 use Rattle.rect_raster.specs.Drawing.{Shape, shape_of, covers, channel_of, byte_at, drawing}
 use Rattle.rect_raster.specs.Bytes.{has_pixel, has_byte, Filled}

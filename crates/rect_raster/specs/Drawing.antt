@@ -1,7 +1,8 @@
 -- What a list of rectangles, painted in order over white, looks like.
-use Rattle.std.specs.Prelude.{ℕ, ◌+◌, ◌-◌, ◌*◌, ◌/◌, ◌%◌, ◌^◌, pos, Bool, ◌&&◌, if◌then◌else◌, int_le, int_lt, List, map, fold}
+use Rattle.std.specs.Prelude.{ℕ, ◌+◌, ◌-◌, ◌*◌, ◌/◌, ◌%◌, ◌^◌, pos, Bool, if◌then◌else◌, List, map, fold}
 use Rattle.std.specs.List.{range_with_len}
-use Rattle.rect_raster.specs.declared.clip_rect.ClipRect.{ClipRect}
+use Rattle.item_geometry.specs.declared.clip_rect.ClipRect.{ClipRect}
+use Rattle.item_geometry.specs.Clip.{has_point}
 use Rattle.rect_raster.specs.Picture.{Picture, picture_of, byte_count, ppm}
 
 -- a rectangle and its colour: alpha, red, green and blue, from the highest byte to the lowest
@@ -14,9 +15,7 @@ shape_of area argb = record { area = area; argb = argb }
 
 -- the rectangle has the pixel: it begins at left and top, and ends before right and bottom
 abbrev pub covers : ClipRect → ℕ → ℕ → Bool
-covers area column row =
-    (int_le area.left (pos column) && int_lt (pos column) area.right)
-    && (int_le area.top (pos row) && int_lt (pos row) area.bottom)
+covers area column row = has_point area (pos column) (pos row)
 
 -- how opaque a colour is, from 0 to 255
 unfoldable pub alpha_of : ℕ → ℕ

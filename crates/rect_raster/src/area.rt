@@ -2,7 +2,7 @@ ghost use Rattle.std.specs.Prelude.{◌≡◌, ℕ, ◌<◌, ◌≤◌, pos, int
 ghost use Rattle.rect_raster.specs.Drawing.{covers};
 ghost use Rattle.rect_raster.specs.Bytes.{has_pixel};
 
-use crate::clip_rect::ClipRect;
+use item_geometry::ClipRect;
 
 /// A part of a canvas, in pixels; with no column or no row it is empty.
 #[derive(Clone, Copy)]

@@ -7,7 +7,7 @@ ghost use Rattle.rect_raster.specs.Drawing.{Shape, shape_of, drawing};
 
 use crate::area::clipped;
 use crate::bytes::fill_area;
-use crate::clip_rect::ClipRect;
+use item_geometry::ClipRect;
 use outside::{Sink, SinkFailed, write_whole};
 use std::alloc::{AllocError, Global};
 use std::marker::Model;

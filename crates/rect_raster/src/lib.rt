@@ -4,9 +4,6 @@
 mod area;
 mod bytes;
 pub mod canvas;
-pub mod clip_rect;
-#[cfg(test)]
-mod tests;
 
 pub use canvas::{Canvas, fill, write_ppm};
-pub use clip_rect::ClipRect;
+pub use item_geometry::ClipRect;

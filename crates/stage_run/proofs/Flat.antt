@@ -8,7 +8,7 @@ use Rattle.rect_form.specs.declared.rect.RectDecl.{RectDecl}
 use Rattle.rect_form.specs.Tree.{Members, none, number, color, child}
 use Rattle.rect_form.specs.Lawful.{IsLawfulAt, AreLawful}
 use Rattle.rect_form.specs.Meaning.{own, inner, size, children, flattened}
-use Rattle.rect_raster.specs.declared.clip_rect.ClipRect.{ClipRect}
+use Rattle.item_geometry.specs.declared.clip_rect.ClipRect.{ClipRect}
 use Rattle.rect_raster.specs.Drawing.{Shape, shape_of, drawing}
 use Rattle.rect_raster.specs.Picture.{Picture}
 use Rattle.stage_run.specs.declared.painter.Corner.{Corner}

@@ -1,7 +1,7 @@
 -- Where the objects of a flat document stand.
 use Rattle.std.specs.Prelude.{ℕ, ◌+◌, ◌*◌, ◌^◌, ◌<◌, ◌≤◌, List, length, slice_index_or, pos, Option, None, Some}
 use Rattle.rect_form.specs.declared.rect.RectDecl.{RectDecl}
-use Rattle.rect_raster.specs.declared.clip_rect.ClipRect.{ClipRect}
+use Rattle.item_geometry.specs.declared.clip_rect.ClipRect.{ClipRect}
 use Rattle.stage_run.specs.declared.painter.Corner.{Corner}
 
 -- the window's upper left corner
