@@ -65,7 +65,7 @@ fn memory_sink_that_stops(rt: HostRuntime) -> Result<(), Fail> {
     sink.stop_after(12);
     let first = write_whole(&mut sink, b"hello,").is_ok();
     let second = write_whole(&mut sink, b" world!").is_err();
-    assert!(rt; first && second && sink.contents() == b"hello, world");
+    assert!(rt; first && second && sink.contents() == b"hello, world".as_slice());
     Ok(())
 }
 
@@ -112,7 +112,7 @@ fn writer_sink_over_a_vector(rt: HostRuntime) -> Result<(), Fail> {
     let mut sink = WriterSink::new(&mut bytes);
     let whole = write_whole(&mut sink, b"hello, ").is_ok();
     let more = write_whole(&mut sink, b"world").is_ok();
-    assert!(rt; whole && more && bytes.as_slice() == b"hello, world");
+    assert!(rt; whole && more && bytes.as_slice() == b"hello, world".as_slice());
     Ok(())
 }
 

@@ -4,7 +4,7 @@ use Rattle.std.specs.Prelude.{replicate}
 use Rattle.std.proofs.lemmas.List.{get_or-replicate, length-replicate}
 use Rattle.std.proofs.lemmas.List.Sums.{fold-append}
 use Rattle.std.proofs.lemmas.List.FromFn.{fill_by_all, get_or-map-range_with_len, length-map-range_with_len}
-use Rattle.rect_raster.specs.declared.clip_rect.ClipRect.{ClipRect}
+use Rattle.item_geometry.specs.declared.clip_rect.ClipRect.{ClipRect}
 use Rattle.rect_raster.specs.Picture.{picture_of, byte_count}
 use Rattle.rect_raster.specs.Drawing.{Shape, shape_of, covers, alpha_of, channel_of, blended, channel_after, channel_at, byte_at, drawing}
 
