@@ -110,21 +110,25 @@ const WRITTEN: [(u32, u32, u32, &[u8]); 4] = [
         RED,
         b"P6\n3 1\n255\n\xff\x00\x00\xff\x00\x00\xff\xff\xff",
     ),
-    (
-        1,
-        2,
-        0xff12_3456,
-        b"P6\n1 2\n255\n\x12\x34\x56\xff\xff\xff",
-    ),
+    (1, 2, 0xff12_3456, b"P6\n1 2\n255\n\x12\x34\x56\xff\xff\xff"),
     (0, 5, RED, b"P6\n0 5\n255\n"),
     (12, 0, RED, b"P6\n12 0\n255\n"),
 ];
 
 /// A sink that stops after so many bytes has got those that come first.
-fn is_written(alloc: Global, canvas: &Canvas, want: &[u8], room: usize) -> Result<bool, AllocError> {
+fn is_written(
+    alloc: Global,
+    canvas: &Canvas,
+    want: &[u8],
+    room: usize,
+) -> Result<bool, AllocError> {
     let mut sink = MemSink::new(alloc, 4, room)?;
     let whole = write_ppm(canvas, &mut sink).is_ok();
-    Ok(whole == (room == want.len()) && want.starts_with(sink.contents()) && sink.contents().len() == room)
+    Ok(
+        whole == (room == want.len())
+            && want.starts_with(sink.contents())
+            && sink.contents().len() == room,
+    )
 }
 
 #[test]

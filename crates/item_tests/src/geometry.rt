@@ -25,19 +25,31 @@ const PAINTED: [(i32, i32, Option<(i32, u32)>, Rects); 14] = [
         4,
         6,
         Some((2, EDGE)),
-        Rects::One(RectPart { w: 4, h: 6, ..ALL_EDGE }),
+        Rects::One(RectPart {
+            w: 4,
+            h: 6,
+            ..ALL_EDGE
+        }),
     ),
     (
         6,
         4,
         Some((2, EDGE)),
-        Rects::One(RectPart { w: 6, h: 4, ..ALL_EDGE }),
+        Rects::One(RectPart {
+            w: 6,
+            h: 4,
+            ..ALL_EDGE
+        }),
     ),
     (
         6,
         4,
         Some((MOST, EDGE)),
-        Rects::One(RectPart { w: 6, h: 4, ..ALL_EDGE }),
+        Rects::One(RectPart {
+            w: 6,
+            h: 4,
+            ..ALL_EDGE
+        }),
     ),
     (
         MOST,
@@ -50,11 +62,41 @@ const PAINTED: [(i32, i32, Option<(i32, u32)>, Rects); 14] = [
         5,
         Some((2, EDGE)),
         Rects::Five([
-            RectPart { x: 2, y: 2, w: 3, h: 1, argb: FILL },
-            RectPart { x: 0, y: 0, w: 7, h: 2, argb: EDGE },
-            RectPart { x: 0, y: 3, w: 7, h: 2, argb: EDGE },
-            RectPart { x: 0, y: 2, w: 2, h: 1, argb: EDGE },
-            RectPart { x: 5, y: 2, w: 2, h: 1, argb: EDGE },
+            RectPart {
+                x: 2,
+                y: 2,
+                w: 3,
+                h: 1,
+                argb: FILL,
+            },
+            RectPart {
+                x: 0,
+                y: 0,
+                w: 7,
+                h: 2,
+                argb: EDGE,
+            },
+            RectPart {
+                x: 0,
+                y: 3,
+                w: 7,
+                h: 2,
+                argb: EDGE,
+            },
+            RectPart {
+                x: 0,
+                y: 2,
+                w: 2,
+                h: 1,
+                argb: EDGE,
+            },
+            RectPart {
+                x: 5,
+                y: 2,
+                w: 2,
+                h: 1,
+                argb: EDGE,
+            },
         ]),
     ),
     (
@@ -62,11 +104,41 @@ const PAINTED: [(i32, i32, Option<(i32, u32)>, Rects); 14] = [
         MOST,
         Some((HALF, EDGE)),
         Rects::Five([
-            RectPart { x: HALF, y: HALF, w: 1, h: 1, argb: FILL },
-            RectPart { x: 0, y: 0, w: MOST, h: HALF, argb: EDGE },
-            RectPart { x: 0, y: 1_073_741_824, w: MOST, h: HALF, argb: EDGE },
-            RectPart { x: 0, y: HALF, w: HALF, h: 1, argb: EDGE },
-            RectPart { x: 1_073_741_824, y: HALF, w: HALF, h: 1, argb: EDGE },
+            RectPart {
+                x: HALF,
+                y: HALF,
+                w: 1,
+                h: 1,
+                argb: FILL,
+            },
+            RectPart {
+                x: 0,
+                y: 0,
+                w: MOST,
+                h: HALF,
+                argb: EDGE,
+            },
+            RectPart {
+                x: 0,
+                y: 1_073_741_824,
+                w: MOST,
+                h: HALF,
+                argb: EDGE,
+            },
+            RectPart {
+                x: 0,
+                y: HALF,
+                w: HALF,
+                h: 1,
+                argb: EDGE,
+            },
+            RectPart {
+                x: 1_073_741_824,
+                y: HALF,
+                w: HALF,
+                h: 1,
+                argb: EDGE,
+            },
         ]),
     ),
 ];
