@@ -7,7 +7,7 @@ ghost use Rattle.qml_grammar.specs.declared.word.Word.TheVariants as words;
 ghost use Rattle.qml_expr.specs.Readings.{IsReading};
 ghost use Rattle.qml_expr.specs.Seen.{input_of, lexeme_of};
 
-use crate::lookahead::{sees_qt_quick, unsupported};
+use crate::lookahead::{sees_name, sees_qt_quick, unsupported};
 use qml_ast::{DocFault, Import, Name, Span};
 use qml_expr::{Cursor, Lexeme};
 use qml_grammar::{Mark, Word};
@@ -26,7 +26,7 @@ fn module_name(cursor: &mut Cursor<'_>) -> Result<(), DocFault>
         cursor.skip();
         return Ok(());
     }
-    if cursor.sees_name() {
+    if sees_name(cursor) {
         return Err(unsupported(cursor));
     }
     Err(cursor.refusal())
@@ -37,7 +37,7 @@ fn module_name(cursor: &mut Cursor<'_>) -> Result<(), DocFault>
 fn second_part(at: Span, cursor: &Cursor<'_>) -> Result<Import, DocFault>
     ensures { IsReading (spec.second_part at (input_of cursor.now)) result (input_of cursor.now) }
 {
-    if cursor.sees_name() {
+    if sees_name(cursor) {
         return Err(DocFault::Unsupported { at });
     }
     Err(cursor.refusal())

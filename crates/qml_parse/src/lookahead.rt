@@ -105,6 +105,17 @@ pub(crate) fn sees_handler_name(cursor: &Cursor<'_>) -> bool
     }
 }
 
+/// Whether the next token is a name.
+#[tactic(auto, unfolding(qml_expr::specs::Seen::input_of))]
+pub(crate) fn sees_name(cursor: &Cursor<'_>) -> bool
+    ensures { result ≡ lexemes.is_name (inputs.ahead (input_of cursor.now)) }
+{
+    match cursor.rest {
+        [token, ..] => token.lexeme.is_name(),
+        [] => false,
+    }
+}
+
 /// Whether the next token is the name QtQuick.
 #[tactic(auto, unfolding(qml_expr::specs::Seen::input_of))]
 pub(crate) fn sees_qt_quick(cursor: &Cursor<'_>) -> bool
