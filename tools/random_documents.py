@@ -32,8 +32,9 @@ GAPS_OF_LINES = ["\n"] * 4 + ["\r\n", "\n\n    ", " // c\n", " /* c\n */ ", " //
 # Rows of random tokens: the tokens of which most of one are made, and the frames in which it is put at the `@`.
 ROWS = [
     (
-        'import QtQuick Window Foo . . 2.15 2.05 2.16 3.15 02.0 2 1 as as Q ; ; "a.js" Item { }',
-        ["@", "import @\nItem { }", "import QtQuick @\nItem { }", "import QtQuick 2.15@ Item { }"],
+        'import QtQuick QtQuick2 Window Foo . . 2.15 2.05 2.16 3.15 02.0 2 1 as as Q ; ; "a.js" Item { }',
+        ["@", "import @\nItem { }", "import QtQuick @\nItem { }", "import QtQuick.@ Item { }"]
+        + ["import Foo @\nItem { }", "import QtQuick 2.15@ Item { }"],
     ),
     (
         "A A B Component a _a . . . { } on : onX foo alias true",

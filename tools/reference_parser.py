@@ -281,11 +281,12 @@ class Parser:
         self.expect("import")
         if self.token.kind == "text":
             self.unsupported()
-        module, words = self.token, [self.name().word]
-        while self.at("."):
+        module = self.name()
+        if module.word != "QtQuick":
+            raise fault_at(module, "unsupported")
+        if self.at("."):
             self.take()
-            words.append(self.name().word)
-        if words != ["QtQuick"]:
+            self.name()
             raise fault_at(module, "unsupported")
         if self.token.kind != "decimal":
             self.refuse()

@@ -1,68 +1,54 @@
 -- Imports: what is read as them is spelled, and what is spelled is read.
-use Rattle.std.proofs.Common.{◌≡◌, ℕ, zero, suc, ◌==◌, ◌&&◌, ◌≤◌, nat_le, Bool, true, false, if◌then◌else◌, List, [], ◌∷◌, ◌++◌, length, Option, Some, None, Result, Ok, Err, inl, inr, refl, sym, ap, subst, ◌∙◌, codes, bytes_eq}
+use Rattle.std.proofs.Common.{◌≡◌, ℕ, ◌==◌, ◌&&◌, ◌≤◌, nat_le, Bool, true, false, if◌then◌else◌, List, [], ◌∷◌, ◌++◌, Option, Some, None, Result, Ok, Err, inl, inr, refl, sym, ap, subst, ◌∙◌, codes}
 use Rattle.std.proofs.lemmas.Bool.{eqb-true, leb-true, le-leb, and_parts}
 use Rattle.std.proofs.lemmas.Slice.Eq.{bytes_eq-Decides}
 use Rattle.qml_ast.specs.declared.document.Import.{Import}
 use Rattle.qml_ast.specs.declared.fault.DocFault.{DocFault}
 use Rattle.qml_ast.specs.declared.span.Span.{Span}
 use Rattle.qml_grammar.specs.DocumentGrammar.{IsName, IsImport, import as an_import, AreImports, none, more}
-use Rattle.qml_grammar.specs.Documents.{module_part, module_rest, module_name, minor_of, minor_of_lexeme, version, unnamed, import_version, import_module, is_text, is_text_lexeme, import_in, one_import, imports}
+use Rattle.qml_grammar.specs.Documents.{is_qt_quick, module_name, second_part, minor_of, minor_of_lexeme, version, unnamed, import_version, behind_module, import_module, is_text, is_text_lexeme, import_in, one_import, imports}
 use Rattle.qml_grammar.specs.Ends.{ended}
-use Rattle.qml_grammar.specs.Inputs.{Input, ahead, after, any_name, repeated, while_next}
-use Rattle.qml_grammar.specs.Lexemes.{Lexeme, decimal, text, Token, last_of, is_mark, is_mark_lexeme, is_word, name_of_lexeme}
+use Rattle.qml_grammar.specs.Inputs.{Input, ahead, after, place}
+use Rattle.qml_grammar.specs.Lexemes.{Lexeme, decimal, text, Token, last_of, is_mark, is_mark_lexeme, is_word, is_name, name_of, name_of_lexeme}
+use Rattle.qml_grammar.specs.Names.{name_is}
 use Rattle.qml_grammar.specs.StatementGrammar.{IsWord, follow, IsEnd}
 use Rattle.qml_grammar.specs.declared.mark.Mark.TheVariants.{Dot}
 use Rattle.qml_grammar.specs.declared.word.Word.TheVariants as ww
 use Rattle.grammar_laws.specs.Laws.{Way}
-use Rattle.grammar_laws.proofs.Behind.{ok_then, if_false, found, stopped}
+use Rattle.grammar_laws.proofs.Behind.{ok_then, if_true, if_false, found}
 use Rattle.grammar_laws.proofs.First.{Begins}
-use Rattle.grammar_laws.proofs.Growing.{went_on, stopped as a_stop, went as a_step}
-use Rattle.grammar_laws.proofs.Tools.{bind_ok, if_ok, ahead_some, ahead_gives, way_token, way_then, Named, named, same_value, same_input}
+use Rattle.grammar_laws.proofs.Tools.{bind_ok, if_ok, ahead_some, ahead_gives, way_token, way_then, Named, same_value, same_input}
 use Rattle.statement_laws.specs.Laws.{Covers}
 use Rattle.statement_laws.proofs.Ends.{ended_covers, ended_goes}
 use Rattle.statement_laws.proofs.Loops.{Items, no_item, an_item, Added, while_lists, while_goes}
-use Rattle.statement_laws.proofs.Ways.{before, arrived, ahead_before, covers_to, covers_as, name_before}
+use Rattle.statement_laws.proofs.Ways.{before, arrived, ahead_before, covers_to, covers_as}
 use Rattle.document_laws.proofs.Steps.{placed}
 
 -- The name of the module
 
-part_is_no_name : (b : Bool) (i : Input) (c : Bool) (j : Input) → module_part b i ≡ Ok (c, j) → c ≡ false
-unfolding module_part
-part_is_no_name b i c j h =
-    let a = bind_ok (any_name (after i)) _ _ h in
-    sym (same_value false c a.at j a.onward)
+quick_of : (o : Option (List ℕ)) → elim o [ Some n ↦ is_qt_quick n | None ↦ false ] ≡ true → o ≡ Some (codes "QtQuick")
+quick_of None h = absurd cc
+quick_of (Some n) h = ap Some ((bytes_eq-Decides n (codes "QtQuick")).0 h)
 
-stays_false : (k : ℕ) (b : Bool) (i : Input) (c : Bool) (j : Input) → b ≡ false → repeated (is_mark Dot) module_part k b i ≡ Ok (c, j) → c ≡ false
-unfolding repeated
-stays_false zero b i c j e h = sym (same_value b c i j h) ∙ e
-stays_false (suc k) b i c j e h = elim (went_on (is_mark Dot) module_part k b i c j h) [
-  | a_stop t s ↦ sym (same_value b c i j s) ∙ e
-  | a_step z l t s g ↦ stays_false k z l c j (part_is_no_name b i z l s) g
+pub quick_is : (u : Token) → IsName u (codes "QtQuick") → name_is is_qt_quick (Some u) ≡ true
+quick_is u is = rw (name_is, is) ((bytes_eq-Decides (codes "QtQuick") (codes "QtQuick")).1 refl)
+
+pub module_is : (i : Input) (u : Unit {0}) (j : Input) → module_name i ≡ Ok (u, j) → Named (codes "QtQuick") i j
+unfolding module_name
+module_is i u j h = elim (if_ok (name_is is_qt_quick (ahead i)) _ _ _ h) [
+  | inl a ↦ (
+      let t = ahead_some (name_is is_qt_quick) refl i a.0 in
+      record { token = t.token; way = subst (λ k. Way i k 0 (t.token ∷ [])) (same_input tt u (after i) j a.1) (way_token t.token t.rest); is = quick_of (name_of (Some t.token)) t.is })
+  | inr a ↦ elim (if_ok (is_name (ahead i)) _ _ _ a.1) [ inl b ↦ absurd (let e = b.1 in cc) | inr b ↦ absurd (let e = b.1 in cc) ]
 ]
 
-no_parts : (k : ℕ) (b : Bool) (i j : Input) → repeated (is_mark Dot) module_part k b i ≡ Ok (true, j) → (b ≡ true) × (i ≡ j)
-unfolding repeated
-no_parts zero b i j h = (same_value b true i j h, same_input b true i j h)
-no_parts (suc k) b i j h = elim (went_on (is_mark Dot) module_part k b i true j h) [
-  | a_stop t s ↦ (same_value b true i j s, same_input b true i j s)
-  | a_step z l t s g ↦ absurd (let e = stays_false k z l true j (part_is_no_name b i z l s) g in cc)
-]
+module_goes : (u : Token) (us : List Token) (j : Input) → IsName u (codes "QtQuick") → module_name (before (u ∷ us) j) ≡ Ok (tt, before us j)
+unfolding module_name
+module_goes u us j is = if_true _ _ (quick_is u is) refl
 
-pub module_is : (i j : Input) → module_name i ≡ Ok (true, j) → Named (codes "QtQuick") i j
-unfolding module_name module_rest while_next
-module_is i j h =
-    let a = bind_ok (any_name i) _ _ h in
-    let n = named i a.at a.value a.first in
-    let s = no_parts (length a.at.rest) (bytes_eq a.value (codes "QtQuick")) a.at j a.onward in
-    let e : a.value ≡ codes "QtQuick" = (bytes_eq-Decides a.value (codes "QtQuick")).0 s.0 in
-    subst (λ k. Named (codes "QtQuick") i k) s.1 (subst (λ m. Named m i a.at) e n)
-
-module_goes : (u v : Token) (j : Input) → IsName u (codes "QtQuick") → is_mark Dot (Some v) ≡ false → module_name (before (u ∷ v ∷ []) j) ≡ Ok (true, before (v ∷ []) j)
-unfolding module_name module_rest while_next
-module_goes u v j is no_dot =
-    let l : Input = before (v ∷ []) j in
-    let same : bytes_eq (codes "QtQuick") (codes "QtQuick") ≡ true = (bytes_eq-Decides (codes "QtQuick") (codes "QtQuick")).1 refl in
-    ok_then _ (name_before (codes "QtQuick") u (v ∷ []) j is) (stopped (λ i. Ok (true, i)) (is_mark Dot) module_part (length l.rest) (bytes_eq (codes "QtQuick") (codes "QtQuick")) l no_dot ∙ ap (λ b. Ok (b, l)) same)
+pub no_second : (at : Span) (i : Input) (x : Import) (j : Input) → second_part at i ≡ Ok (x, j) → ⊥
+unfolding second_part
+no_second at i x j h = elim (if_ok (is_name (ahead i)) _ _ _ h) [ inl a ↦ absurd (let e = a.1 in cc) | inr a ↦ absurd (let e = a.1 in cc) ]
 
 -- The version
 
@@ -130,16 +116,16 @@ version_covers t u i k x j word_is name_is w h =
     }) b.onward
 
 pub bare_covers : (i : Input) → is_word ww.Import (ahead i) ≡ true → (x : Import) (j : Input) → import_in i ≡ Ok (x, j) → Covers IsBare i j x
-unfolding import_in import_module
+unfolding import_in import_module behind_module
 bare_covers i t x j h = elim (if_ok (is_text (ahead (after i))) _ _ _ h) [
   | inl a ↦ absurd (let e = a.1 in cc)
-  | inr a ↦ (let b = bind_ok (module_name (after i)) _ _ a.1 in elim (if_ok b.value _ _ _ b.onward) [
-    | inl c ↦ (
+  | inr a ↦ (let b = bind_ok (module_name (after i)) _ _ a.1 in elim (if_ok (is_mark Dot (ahead b.at)) _ _ _ b.onward) [
+    | inl c ↦ absurd (no_second (place (after i)) (after b.at) x j c.1)
+    | inr c ↦ (
         let o = ahead_some (is_word ww.Import) refl i t in
-        let u = module_is (after i) b.at (b.first ∙ ap (λ v. Ok (v, b.at)) c.0) in
+        let u = module_is (after i) b.value b.at b.first in
         let read = ap (λ s. import_version s b.at) (sym (placed u.way)) ∙ c.1 in
         version_covers o.token u.token i b.at x j o.is u.is (way_then (way_token o.token o.rest) u.way) read)
-    | inr c ↦ absurd (let e = c.1 in cc)
   ])
 ]
 
@@ -155,9 +141,9 @@ unfolding import_version unnamed
 version_read v m at j is few free = ok_then _ (version_goes at v m j is few) (ok_then _ (if_false _ _ free refl) refl)
 
 bare_read : (t u v : Token) (m : ℕ) (j : Input) → IsName u (codes "QtQuick") → v.lexeme ≡ decimal 2 m → m ≤ 15 → is_word ww.As (ahead j) ≡ false → import_in (before (t ∷ u ∷ v ∷ []) j) ≡ Ok (record { «module» = codes "QtQuick"; major = 2; minor = m; span = u.span }, j)
-unfolding import_in import_module
+unfolding import_in import_module behind_module
 bare_read t u v m j name_is is few free =
-    if_false _ _ (lexeme_name_no_text u.lexeme (codes "QtQuick") name_is) (ok_then _ (module_goes u v j name_is (decimal_no_dot v m is)) (version_read v m u.span j is few free))
+    if_false _ _ (lexeme_name_no_text u.lexeme (codes "QtQuick") name_is) (ok_then _ (module_goes u (v ∷ []) j name_is) (if_false _ _ (decimal_no_dot v m is) (version_read v m u.span j is few free)))
 
 bare_goes : {ts : List Token} {next : Option Token} {x : Import} (j : Input) → ahead j ≡ next → IsBare ts next x → import_in (before ts j) ≡ Ok (x, j)
 bare_goes j e (bare t u v m ts_is x_is word_is name_is is few free) = rw (ts_is, x_is) (bare_read t u v m j name_is is few (ap (is_word ww.As) e ∙ free))

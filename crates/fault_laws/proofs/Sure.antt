@@ -94,6 +94,12 @@ module _ (Kept Early : Type 0) where
 
   -- A reading by the next token
 
+  pub fails_if : {A : Type 0} (test : Option Token → Bool) (p q : Parser A) (i : Input) (e : DocFault) → test (ahead i) ≡ true → Fails Kept Early p i e → Fails Kept Early (branch test p q) i e
+  fails_if test p q i e t c = record { nodes = c.nodes; text = c.text; at = c.at; way = c.way; keeps = c.keeps; place = c.place; again = λ l s. if_true _ _ (ap test (ahead_again l c.way s.ahead) ∙ t) (c.again l s) }
+
+  pub fails_else : {A : Type 0} (test : Option Token → Bool) (p q : Parser A) (i : Input) (e : DocFault) → test (ahead i) ≡ false → Fails Kept Early q i e → Fails Kept Early (branch test p q) i e
+  fails_else test p q i e t c = record { nodes = c.nodes; text = c.text; at = c.at; way = c.way; keeps = c.keeps; place = c.place; again = λ l s. if_false _ _ (ap test (ahead_again l c.way s.ahead) ∙ t) (c.again l s) }
+
   module _ {A : Type 0} (test : Option Token → Bool) (p q : Parser A) (if_so : Sure Kept Early p) (not_so : Sure Kept Early q) where
     branch_keeps : Kept → (i : Input) (x : A) (j : Input) → branch test p q i ≡ Ok (x, j) → i.nodes ≡ j.nodes
     branch_keeps z i x j h = elim (if_ok (test (ahead i)) _ _ _ h) [
@@ -103,8 +109,8 @@ module _ (Kept Early : Type 0) where
 
     branch_fails : (i : Input) (e : DocFault) → branch test p q i ≡ Err e → Fails Kept Early (branch test p q) i e
     branch_fails i e h = elim (if_ok (test (ahead i)) _ _ _ h) [
-      | inl a ↦ (let c = if_so.fails i e a.1 in record { nodes = c.nodes; text = c.text; at = c.at; way = c.way; keeps = c.keeps; place = c.place; again = λ l s. if_true _ _ (ap test (ahead_again l c.way s.ahead) ∙ a.0) (c.again l s) })
-      | inr a ↦ (let c = not_so.fails i e a.1 in record { nodes = c.nodes; text = c.text; at = c.at; way = c.way; keeps = c.keeps; place = c.place; again = λ l s. if_false _ _ (ap test (ahead_again l c.way s.ahead) ∙ a.0) (c.again l s) })
+      | inl a ↦ fails_if test p q i e a.0 (if_so.fails i e a.1)
+      | inr a ↦ fails_else test p q i e a.0 (not_so.fails i e a.1)
     ]
 
   pub sure_branch : {A : Type 0} (test : Option Token → Bool) {p q : Parser A} → Sure Kept Early p → Sure Kept Early q → Sure Kept Early (branch test p q)

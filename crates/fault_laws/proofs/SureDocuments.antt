@@ -1,38 +1,34 @@
 -- Imports and a whole document are read, or refused, by the tokens up to the next one alone, and by those of a name
 -- with dots, or of a module.
-use Rattle.std.proofs.Common.{◌≡◌, ℕ, zero, suc, ◌<◌, Bool, true, false, is_some, List, [], ◌∷◌, ◌++◌, length, Option, Some, None, Ok, Err, inl, inr, refl, sym, ap, subst, ◌∙◌, codes}
+use Rattle.std.proofs.Common.{◌≡◌, ℕ, ◌+◌, ◌<◌, true, false, is_some, List, [], ◌∷◌, ◌++◌, length, Option, Some, None, Result, Ok, Err, inl, inr, refl, sym, ap, ◌∙◌, arith, codes}
 use Rattle.qml_ast.specs.declared.decl.Decl.{Decl}
 use Rattle.qml_ast.specs.declared.document.Import.{Import}
 use Rattle.qml_ast.specs.declared.fault.DocFault.{DocFault}
 use Rattle.qml_ast.specs.declared.fault.DocFault.TheVariants.{Unsupported}
 use Rattle.qml_ast.specs.declared.span.Span.{Span}
-use Rattle.qml_grammar.specs.Documents.{body, object_in, under, module_part, module_rest, module_name, minor_of, is_decimal, version, unnamed, import_version, import_module, is_text, import_in, one_import, imports, root, nothing_more, document}
+use Rattle.qml_grammar.specs.Documents.{body, object_in, under, is_qt_quick, module_name, second_part, minor_of, is_decimal, version, unnamed, import_version, behind_module, import_module, is_text, import_in, one_import, imports, root, nothing_more, document}
 use Rattle.qml_grammar.specs.Ends.{ended}
-use Rattle.qml_grammar.specs.Inputs.{Input, Parser, ahead, after, place, refusal, any_name, repeated, while_next}
-use Rattle.qml_grammar.specs.Lexemes.{Token, head, tail, name_of, is_mark, is_word}
+use Rattle.qml_grammar.specs.Inputs.{Input, Parser, ahead, after, place, refusal, take_token}
+use Rattle.qml_grammar.specs.Lexemes.{Token, head, tail, name_of, is_name, is_mark, is_word}
 use Rattle.qml_grammar.specs.Names.{upper_first, name_is, is_dotted_type}
 use Rattle.qml_grammar.specs.declared.mark.Mark.TheVariants.{OpenBrace, Dot}
 use Rattle.qml_grammar.specs.declared.word.Word.TheVariants as ww
 use Rattle.grammar_laws.specs.Laws.{Way}
-use Rattle.grammar_laws.proofs.Behind.{behind, last_behind, ok_then, if_true, if_false, missing}
-use Rattle.grammar_laws.proofs.Growing.{stopped, went, went_on}
-use Rattle.grammar_laws.proofs.Local.{Local, ahead_again, like_again, followed, branch, chosen, not_chosen, chosen_in, before, onward, bind_err, err_then, local_followed, local_branch, local_choose}
+use Rattle.grammar_laws.proofs.Behind.{behind, behind_both, last_behind, ok_then, if_true, if_false, missing}
+use Rattle.grammar_laws.proofs.Local.{Local, ahead_again, like_again, followed, chosen, not_chosen, chosen_in, before, onward, bind_err, err_then, local_followed, local_branch, local_choose}
 use Rattle.grammar_laws.proofs.LocalTokens.{local_failing}
-use Rattle.grammar_laws.proofs.Tools.{bind_ok, way_none, way_then, way_token, ahead_some, named, if_ok, same_input}
+use Rattle.grammar_laws.proofs.Tools.{bind_ok, way_none, way_then, way_token, ahead_some, if_ok}
 use Rattle.grammar_laws.proofs.Viable.{same_fault, same_text, refused_once}
-use Rattle.fault_laws.specs.Faults.{are_dotted, is_dotted, refused as is_refused}
+use Rattle.document_laws.proofs.Imports.{module_is, no_second}
+use Rattle.fault_laws.specs.Faults.{are_dotted, refused as is_refused}
 use Rattle.fault_laws.proofs.Dotted.{both_true, no_upper_type, seen_type, some_of}
 use Rattle.fault_laws.proofs.Firm.{Firm, firm_unless, sure_split, place_at}
 use Rattle.fault_laws.proofs.Grows.{Grows, grows_followed, grows_behind, grows_ended}
-use Rattle.fault_laws.proofs.Sure.{at_next, early, Fails, fails_first, fails_onward, sure_while}
+use Rattle.fault_laws.proofs.Sure.{at_next, early, Fails, fails_first, fails_onward, fails_if, fails_else, sure_while}
 use Rattle.fault_laws.proofs.SureLevels.{no_dot_same, brace_no_dot, under_well}
-use Rattle.fault_laws.proofs.SureMembers.{then_well, branch_well, pure_well, after_well, refused_well, unsupported_well, token_well, name_well, ended_well, named_some}
+use Rattle.fault_laws.proofs.SureMembers.{then_well, branch_well, pure_well, after_well, refused_well, unsupported_well, token_well, ended_well}
 use Rattle.fault_laws.proofs.SureTokens.{local_placed, place_by}
 use Rattle.fault_laws.proofs.SureValues.{Well, upper_name, object_well, object_firm}
-
-dot_some : (o : Option Token) → is_mark Dot o ≡ true → is_some o ≡ true
-dot_some None h = absurd cc
-dot_some (Some t) h = refl
 
 word_some : (o : Option Token) → is_word ww.Import o ≡ true → is_some o ≡ true
 word_some None h = absurd cc
@@ -40,69 +36,12 @@ word_some (Some t) h = refl
 
 -- Modules
 
-part_well : (single : Bool) → Well (module_part single)
-unfolding module_part
-part_well single = then_well token_well (λ u. then_well name_well (λ n. pure_well false))
-
-part_less : (single : Bool) (i : Input) (x : Bool) (j : Input) → is_mark Dot (ahead i) ≡ true → module_part single i ≡ Ok (x, j) → length j.rest < length i.rest
-unfolding module_part
-part_less single i x j t h = grows_behind _ (λ u. (then_well name_well (λ n. pure_well false)).local) i x j (dot_some (ahead i) t) h
-
-rest_well : (n : List ℕ) → Well (module_rest n)
-unfolding module_rest
-rest_well n = sure_while (Unit {0}) (Unit {0}) (is_mark Dot) module_part refl part_well part_less _
-
 module_well : Well module_name
 unfolding module_name
-module_well = then_well name_well rest_well
+module_well = branch_well (name_is is_qt_quick) (after_well tt) (branch_well is_name unsupported_well refused_well)
 
--- the tokens of a module are a name with dots
-record Dots (i j : Input) : Type 0 where
-  text : List Token
-  way : Way i j 0 text
-  dotted : are_dotted text ≡ true
-
-record Module (i j : Input) : Type 0 where
-  token : Token
-  others : List Token
-  way : Way i j 0 (token ∷ others)
-  dotted : is_dotted (token ∷ others) ≡ true
-
-no_dots : (i j : Input) → i ≡ j → Dots i j
-no_dots i j e = record { text = []; way = subst (λ k. Way i k 0 []) e (way_none i); dotted = refl }
-
-more_dots : (single : Bool) (i : Input) (x : Bool) (k j : Input) → is_mark Dot (ahead i) ≡ true → module_part single i ≡ Ok (x, k) → Dots k j → Dots i j
-unfolding module_part
-more_dots single i x k j t h d =
-    let o = ahead_some (is_mark Dot) refl i t in
-    let b = bind_ok (any_name (after i)) _ _ h in
-    let n = named (after i) b.at b.value b.first in
-    let w : Way i k 0 (o.token ∷ n.token ∷ []) = subst (λ l. Way i l 0 (o.token ∷ n.token ∷ [])) (same_input false x b.at k b.onward) (way_then (way_token {i = i} o.token o.rest) n.way) in
-    record { text = o.token ∷ n.token ∷ d.text; way = way_then w d.way; dotted = both_true (both_true o.is (ap is_some n.is)) d.dotted }
-
-loop_dots : (n : ℕ) (x : Bool) (i : Input) (y : Bool) (j : Input) → repeated (is_mark Dot) module_part n x i ≡ Ok (y, j) → Dots i j
-unfolding repeated
-loop_dots zero x i y j h = no_dots i j (same_input x y i j h)
-loop_dots (suc n) x i y j h = elim (went_on (is_mark Dot) module_part n x i y j h) [
-  | stopped t e ↦ no_dots i j (same_input x y i j e)
-  | went z k t g g2 ↦ more_dots x i z k j t g (loop_dots n z k y j g2)
-]
-
-rest_dots : (n : List ℕ) (i : Input) (y : Bool) (j : Input) → module_rest n i ≡ Ok (y, j) → Dots i j
-unfolding module_rest while_next
-rest_dots n i y j h = loop_dots (length i.rest) _ i y j h
-
-module_text : (i : Input) (y : Bool) (j : Input) → module_name i ≡ Ok (y, j) → Module i j
-unfolding module_name
-module_text i y j h =
-    let a = bind_ok (any_name i) _ _ h in
-    let t = named i a.at a.value a.first in
-    let d = rest_dots a.value a.at y j a.onward in
-    record { token = t.token; others = d.text; way = way_then t.way d.way; dotted = both_true (ap is_some t.is) d.dotted }
-
-module_some : (i : Input) (y : Bool) (j : Input) → module_name i ≡ Ok (y, j) → is_some (ahead i) ≡ true
-unfolding module_name
-module_some i y j h = let a = bind_ok (any_name i) _ _ h in named_some i a.value a.at a.first
+module_some : (i : Input) (u : Unit {0}) (j : Input) → module_name i ≡ Ok (u, j) → is_some (ahead i) ≡ true
+module_some i u j h = let m = module_is i u j h in ap (λ ts. is_some (head ts)) (m.way).rest
 
 -- Versions
 
@@ -150,74 +89,11 @@ version_refused s k e h = elim (chosen_in (minor_of (ahead k)) _ _ _ h) [
   ]
 ]
 
--- The import of a module
-
-abbrev versioned : Span → Bool → Parser Import
-versioned s ours = branch (λ o. ours) (import_version s) (λ k. Err (Unsupported s))
-
-abbrev module_at : Span → Parser Import
-module_at s = followed module_name (versioned s)
-
-module_at_local : (s : Span) → Local (module_at s)
-module_at_local s = local_followed module_well.local (λ ours. local_branch (λ o. ours) (version_import_local s) (local_failing (λ i. Unsupported s)))
-
-import_local : Local import_module
-unfolding import_module
-import_local = local_placed (Unit {0}) (Unit {0}) module_at module_at_local (λ i x j h. let b = bind_ok (module_name i) _ _ h in module_some i b.value b.at b.first)
-
 import_version_keeps : (s : Span) (i : Input) (x : Import) (j : Input) → import_version s i ≡ Ok (x, j) → i.nodes ≡ j.nodes
 unfolding import_version
 import_version_keeps s i x j h =
     let b = bind_ok (version s i) _ _ h in
     version_keeps s i b.value b.at b.first ∙ (unnamed_import_well s b.value).keeps tt b.at x j b.onward
-
-versioned_keeps : (s : Span) (ours : Bool) (i : Input) (x : Import) (j : Input) → versioned s ours i ≡ Ok (x, j) → i.nodes ≡ j.nodes
-versioned_keeps s true i x j h = import_version_keeps s i x j h
-versioned_keeps s false i x j h = absurd cc
-
-import_keeps : (i : Input) (x : Import) (j : Input) → import_module i ≡ Ok (x, j) → i.nodes ≡ j.nodes
-unfolding import_module
-import_keeps i x j h =
-    let b = bind_ok (module_name i) _ _ h in
-    module_well.keeps tt i b.value b.at b.first ∙ versioned_keeps (place i) b.value b.at x j b.onward
-
--- Its faults
-
-module _ (i : Input) (ours : Bool) (k : Input) (g : module_name i ≡ Ok (ours, k)) where
-  -- a module that is refused at its first token, once its name and the next token are known
-  refused_first : (e : DocFault) → e ≡ Unsupported (place i) → ((l : Input) → ahead l ≡ ahead k → versioned (place i) ours l ≡ Err e) → Fails (Unit {0}) (Unit {0}) import_module i e
-  unfolding import_module
-  refused_first e stands again =
-      let m = module_text i ours k g in
-      let a = module_well.local.ok i ours k g in
-      let text : a.text ≡ m.token ∷ m.others = same_text a.way m.way in
-      let there : place i ≡ m.token.span = place_at i m.token (m.others ++ k.rest) (m.way).rest in
-      record {
-        nodes = a.nodes;
-        text = a.text;
-        at = k;
-        way = a.way;
-        keeps = λ z. module_well.keeps tt i ours k g;
-        place = early tt (is_refused [] m.token m.others text m.dotted (stands ∙ ap Unsupported there));
-        again = λ l s.
-            let same : place (behind a.text a.nodes l) ≡ place i = place_by (Unit {0}) (Unit {0}) (behind a.text a.nodes l) i (ahead_again l a.way s.ahead) (module_some i ours k g) in
-            ok_then _ (a.again l s.ahead) (ap (λ z. versioned z ours l) same ∙ again l s.ahead);
-      }
-
-  -- a fault behind the module's name
-  refused_behind : (e : DocFault) → Fails (Unit {0}) (Unit {0}) (versioned (place i) ours) k e → Fails (Unit {0}) (Unit {0}) import_module i e
-  unfolding import_module
-  refused_behind e c =
-      let a = fails_onward (Unit {0}) (Unit {0}) module_name (versioned (place i)) i k ours e (module_well.local.ok i ours k g) (λ z. module_well.keeps tt i ours k g) c in
-      record {
-        nodes = a.nodes;
-        text = a.text;
-        at = a.at;
-        way = a.way;
-        keeps = a.keeps;
-        place = a.place;
-        again = λ l s. ap (λ z. module_at z (behind a.text a.nodes l)) (like_again l a.way s).place ∙ a.again l s;
-      }
 
 version_at_once : (s : Span) (k : Input) (e : DocFault) → ((l : Input) → ahead l ≡ ahead k → version s l ≡ Err (refusal l)) → refusal k ≡ e → Fails (Unit {0}) (Unit {0}) (import_version s) k e
 unfolding import_version
@@ -241,31 +117,150 @@ version_err : (s : Span) (l : Input) (e : DocFault) → version s l ≡ Err e �
 unfolding import_version
 version_err s l e h = err_then _ h
 
-module _ (i : Input) (k : Input) (g : module_name i ≡ Ok (true, k)) (e : DocFault) where
-  version_by : Refused (place i) k e → Fails (Unit {0}) (Unit {0}) import_module i e
-  version_by (of_module again fault) = refused_first i true k g e fault (λ l q. version_err (place i) l e (again l q))
-  version_by (at_token again fault) = refused_behind i true k g e (version_at_once (place i) k e again fault)
+-- Second names
 
-  version_fails : import_version (place i) k ≡ Err e → Fails (Unit {0}) (Unit {0}) import_module i e
-  unfolding import_version
-  version_fails h = elim (bind_err (version (place i) k) _ _ h) [
-    | before f ↦ version_by (version_refused (place i) k e f)
-    | onward n m f f2 ↦ refused_behind i true k g e (version_onward (place i) k m n e f f2)
+second_local : (s : Span) → Local (second_part s)
+unfolding second_part
+second_local s = local_branch is_name (local_failing (λ i. Unsupported s)) refused_well.local
+
+second_fails : (s : Span) (k : Input) (e : DocFault) → is_name (ahead k) ≡ false → ◌≡◌ {A = Result (Import × Input) DocFault} (Err (refusal k)) (Err e) → Fails (Unit {0}) (Unit {0}) (second_part s) k e
+unfolding second_part
+second_fails s k e t h = fails_else (Unit {0}) (Unit {0}) is_name (λ i. Err (Unsupported s)) (λ i. Err (refusal i)) k e t (refused_well.fails k e h)
+
+second_err : (s : Span) (l : Input) → is_name (ahead l) ≡ true → second_part s l ≡ Err (Unsupported s)
+unfolding second_part
+second_err s l t = if_true _ _ t refl
+
+-- What stands behind the first name of a module
+
+abbrev dotted_at : Span → Parser Import
+dotted_at s = followed take_token (λ u. second_part s)
+
+behind_local : (s : Span) → Local (behind_module s)
+unfolding behind_module
+behind_local s = local_branch (is_mark Dot) (local_followed token_well.local (λ u. second_local s)) (version_import_local s)
+
+behind_keeps : (s : Span) (i : Input) (x : Import) (j : Input) → behind_module s i ≡ Ok (x, j) → i.nodes ≡ j.nodes
+unfolding behind_module
+behind_keeps s i x j h = elim (if_ok (is_mark Dot (ahead i)) _ _ _ h) [
+  | inl a ↦ absurd (no_second s (after i) x j a.1)
+  | inr a ↦ import_version_keeps s i x j a.1
+]
+
+-- the tokens with which, and with the next one, it shows that the module is another one, or has another version
+record Shown (p : Parser Import) (k : Input) (e : DocFault) : Type 0 where
+  text : List Token
+  at : Input
+  way : Way k at 0 text
+  dotted : are_dotted text ≡ true
+  again : (l : Input) → ahead l ≡ ahead at → p (behind text 0 l) ≡ Err e
+
+-- how what stands there is refused
+data Behind (s : Span) (k : Input) (e : DocFault) : Type 0 where
+  module_refused : Shown (behind_module s) k e → e ≡ Unsupported s → Behind s k e
+  token_refused : Fails (Unit {0}) (Unit {0}) (behind_module s) k e → Behind s k e
+
+by_second : (s : Span) (k : Input) (e : DocFault) → is_mark Dot (ahead k) ≡ true → second_part s (after k) ≡ Err e → Behind s k e
+unfolding behind_module second_part
+by_second s k e t h = elim (if_ok (is_name (ahead (after k))) _ _ _ h) [
+  | inl a ↦ (
+      let o = ahead_some (is_mark Dot) refl k t in
+      let fault : Unsupported s ≡ e = same_fault {A = Import} (Unsupported s) e a.1 in
+      module_refused (record {
+        text = o.token ∷ [];
+        at = after k;
+        way = way_token o.token o.rest;
+        dotted = o.is;
+        again = λ l q. if_true _ _ o.is (second_err s (behind [] 0 l) (ap is_name q ∙ a.0) ∙ ap Err fault);
+      }) (sym fault))
+  | inr a ↦ token_refused (fails_if (Unit {0}) (Unit {0}) (is_mark Dot) (dotted_at s) (import_version s) k e t
+      (fails_onward (Unit {0}) (Unit {0}) take_token (λ u. second_part s) k (after k) tt e (token_well.local.ok k tt (after k) refl) (λ z. refl) (second_fails s (after k) e a.0 a.1)))
+]
+
+by_version : (s : Span) (k : Input) (e : DocFault) → is_mark Dot (ahead k) ≡ false → Refused s k e → Behind s k e
+unfolding behind_module
+by_version s k e t (of_module again fault) = module_refused (record {
+  text = [];
+  at = k;
+  way = way_none k;
+  dotted = refl;
+  again = λ l q. ap (behind_module s) (last_behind l) ∙ if_false _ _ (ap (is_mark Dot) q ∙ t) (version_err s l e (again l q));
+}) fault
+by_version s k e t (at_token again fault) = token_refused (fails_else (Unit {0}) (Unit {0}) (is_mark Dot) (dotted_at s) (import_version s) k e t (version_at_once s k e again fault))
+
+behind_fails : (s : Span) (k : Input) (e : DocFault) → behind_module s k ≡ Err e → Behind s k e
+unfolding behind_module import_version
+behind_fails s k e h = elim (if_ok (is_mark Dot (ahead k)) _ _ _ h) [
+  | inl a ↦ by_second s k e a.0 a.1
+  | inr a ↦ elim (bind_err (version s k) _ _ a.1) [
+    | before f ↦ by_version s k e a.0 (version_refused s k e f)
+    | onward n m f f2 ↦ token_refused (fails_else (Unit {0}) (Unit {0}) (is_mark Dot) (dotted_at s) (import_version s) k e a.0 (version_onward s k m n e f f2))
   ]
+]
 
-versioned_fails : (i : Input) (ours : Bool) (k : Input) (e : DocFault) → module_name i ≡ Ok (ours, k) → versioned (place i) ours k ≡ Err e → Fails (Unit {0}) (Unit {0}) import_module i e
-versioned_fails i true k e g h = version_fails i k g e h
-versioned_fails i false k e g h =
-    let fault : Unsupported (place i) ≡ e = same_fault {A = Import} (Unsupported (place i)) e h in
-    refused_first i false k g e (sym fault) (λ l q. ap Err fault)
+-- The import of a module
+
+abbrev module_at : Span → Parser Import
+module_at s = followed module_name (λ u. behind_module s)
+
+import_local : Local import_module
+unfolding import_module
+import_local = local_placed (Unit {0}) (Unit {0}) module_at (λ s. local_followed module_well.local (λ u. behind_local s)) (λ i x j h. let b = bind_ok (module_name i) _ _ h in module_some i b.value b.at b.first)
+
+import_keeps : (i : Input) (x : Import) (j : Input) → import_module i ≡ Ok (x, j) → i.nodes ≡ j.nodes
+unfolding import_module
+import_keeps i x j h =
+    let b = bind_ok (module_name i) _ _ h in
+    module_well.keeps tt i b.value b.at b.first ∙ behind_keeps (place i) b.at x j b.onward
+
+module _ (i : Input) (u : Unit {0}) (k : Input) (g : module_name i ≡ Ok (u, k)) (e : DocFault) where
+  -- at the module's first name
+  refused_first : Shown (behind_module (place i)) k e → e ≡ Unsupported (place i) → Fails (Unit {0}) (Unit {0}) import_module i e
+  unfolding import_module
+  refused_first c stands =
+      let m = module_is i u k g in
+      let a = module_well.local.ok i u k g in
+      let text : a.text ≡ m.token ∷ [] = same_text a.way m.way in
+      let there : place i ≡ m.token.span = place_at i m.token k.rest (m.way).rest in
+      record {
+        nodes = a.nodes + 0;
+        text = a.text ++ c.text;
+        at = c.at;
+        way = way_then a.way c.way;
+        keeps = λ z. module_well.keeps tt i u k g ∙ omega (arith, (c.way).used);
+        place = early tt (is_refused [] m.token c.text (ap (λ ts. ts ++ c.text) text) (both_true (ap is_some m.is) c.dotted) (stands ∙ ap Unsupported there));
+        again = λ l s.
+            let next : ahead (behind c.text 0 l) ≡ ahead k = ahead_again l c.way s.ahead in
+            let same : place (behind a.text a.nodes (behind c.text 0 l)) ≡ place i = place_by (Unit {0}) (Unit {0}) (behind a.text a.nodes (behind c.text 0 l)) i (ahead_again (behind c.text 0 l) a.way next) (module_some i u k g) in
+            ap import_module (behind_both a.text c.text a.nodes 0 l refl refl) ∙ ok_then _ (a.again (behind c.text 0 l) next) (ap (λ z. behind_module z (behind c.text 0 l)) same ∙ c.again l s.ahead);
+      }
+
+  -- behind it
+  refused_behind : Fails (Unit {0}) (Unit {0}) (behind_module (place i)) k e → Fails (Unit {0}) (Unit {0}) import_module i e
+  unfolding import_module
+  refused_behind c =
+      let a = fails_onward (Unit {0}) (Unit {0}) module_name (λ v. behind_module (place i)) i k u e (module_well.local.ok i u k g) (λ z. module_well.keeps tt i u k g) c in
+      record {
+        nodes = a.nodes;
+        text = a.text;
+        at = a.at;
+        way = a.way;
+        keeps = a.keeps;
+        place = a.place;
+        again = λ l s. ap (λ z. module_at z (behind a.text a.nodes l)) (like_again l a.way s).place ∙ a.again l s;
+      }
+
+  refused_by : Behind (place i) k e → Fails (Unit {0}) (Unit {0}) import_module i e
+  refused_by (module_refused c fault) = refused_first c fault
+  refused_by (token_refused c) = refused_behind c
 
 import_fails : (i : Input) (e : DocFault) → import_module i ≡ Err e → Fails (Unit {0}) (Unit {0}) import_module i e
 unfolding import_module
 import_fails i e h = elim (bind_err (module_name i) _ _ h) [
   | before g ↦ (
-      let a = fails_first (Unit {0}) (Unit {0}) module_name (versioned (place i)) i e (module_well.fails i e g) in
+      let a = fails_first (Unit {0}) (Unit {0}) module_name (λ u. behind_module (place i)) i e (module_well.fails i e g) in
       record { nodes = a.nodes; text = a.text; at = a.at; way = a.way; keeps = a.keeps; place = a.place; again = λ l s. ap (λ z. module_at z (behind a.text a.nodes l)) (like_again l a.way s).place ∙ a.again l s })
-  | onward ours k g g2 ↦ versioned_fails i ours k e g g2
+  | onward u k g g2 ↦ refused_by i u k g e (behind_fails (place i) k e g2)
 ]
 
 import_module_well : Well import_module

@@ -1,4 +1,4 @@
--- What stands before the first fault of a document can go on, but where it ends in the name of a module.
+-- What stands before the first fault of a document can go on, but where it ends with a dot behind a module's name.
 use Rattle.std.proofs.Common.{◌≡◌, ℕ, suc, ◌+◌, ◌≤◌, ◌<◌, ◌==◌, ◌||◌, ◌⊎◌, not, Bool, true, false, is_some, List, [], ◌∷◌, ◌++◌, Option, Some, None, Result, Ok, Err, inl, inr, refl, sym, ap, subst, subst₂, ◌∙◌, arith, append_assoc, append-nil}
 use Rattle.qml_ast.specs.declared.decl.Decl.{Decl, roll-Decl}
 use Rattle.qml_ast.specs.declared.document.Document.{Document}
@@ -23,10 +23,10 @@ use Rattle.document_laws.proofs.Imports.{import_covers, imports_cover}
 use Rattle.document_laws.proofs.Sound.{object_covers, under_sound}
 use Rattle.fault_laws.specs.Faults.{place_before}
 use Rattle.prefix_laws.specs.Prefixes.{IsDocumentPrefix, EndsInModule, PrefixBeforeFault}
-use Rattle.prefix_laws.proofs.DocumentSteps.{refused_place, unsupported_place, never, Adding, while_halts}
+use Rattle.prefix_laws.proofs.DocumentSteps.{refused_place, unsupported_place, never, Adding, while_halts, Becoming}
 use Rattle.prefix_laws.proofs.DocumentTokens.{upper_name, in_braces, upper_is, upper_is_upper}
 use Rattle.prefix_laws.proofs.Going.{HaltsOn, Halts, halts_here, halts_by, halts_behind, made_err, the_mark, mark_is}
-use Rattle.prefix_laws.proofs.ImportPrefixes.{IsImportPrefix, ended_import_halts}
+use Rattle.prefix_laws.proofs.ImportPrefixes.{AnyImport, IsImportPrefix, ended_import_halts}
 use Rattle.prefix_laws.proofs.LevelPrefixes.{prefixes_under}
 use Rattle.prefix_laws.proofs.MovedDocuments.{moved_object}
 use Rattle.prefix_laws.proofs.ValuePrefixes.{IsObjectPrefix, object_halts}
@@ -110,20 +110,32 @@ one_import_alone ts next x p = more ts [] x [] (sym (append-nil ts)) refl p (non
 abbrev pub CanBegin : List Token → Type 0
 CanBegin ts = IsDocumentPrefix ts ⊎ EndsInModule ts
 
+import_begun : (us : List Token) (next : Option Token) (xs : List Import) (t : Token) (ts : List Token) → AreImports us next xs → next ≡ Some t → Becoming AnyImport (t ∷ ts) → IsDocumentPrefix (us ++ t ∷ ts)
+import_begun us next xs t ts p e g =
+    let an_object : List Token = later_name 1 ∷ in_braces [] in
+    let there : Option Token = Some (later_name 1) in
+    let all = imports_append ((t ∷ ts) ++ g.others) there (g.value ∷ []) e p (one_import_alone ((t ∷ ts) ++ g.others) there g.value (g.spelled there)) in
+    record {
+      others = g.others ++ an_object;
+      most = 200;
+      value = record { imports = xs ++ g.value ∷ []; root = _ };
+      spelled = a_document (us ++ ((t ∷ ts) ++ g.others)) an_object (xs ++ g.value ∷ []) _ (simp append_assoc refl) refl all (later_object 1);
+    }
+
 import_on : (us : List Token) (next : Option Token) (xs : List Import) (vs : List Token) (w : IsImportPrefix vs) → AreImports us next xs → next ≡ Some w.token → CanBegin (us ++ vs)
 import_on us next xs vs w p e = elim w.going [
-  | inl g ↦ (
-      let an_object : List Token = later_name 1 ∷ in_braces [] in
-      let there : Option Token = Some (later_name 1) in
-      let same : next ≡ follow (vs ++ g.others) there = e ∙ sym (ap (λ ts. follow (ts ++ g.others) there) w.text) in
-      let all = imports_append (vs ++ g.others) there (g.value ∷ []) same p (one_import_alone (vs ++ g.others) there g.value (g.spelled there)) in
-      inl (record {
-        others = g.others ++ an_object;
-        most = 200;
-        value = record { imports = xs ++ g.value ∷ []; root = _ };
-        spelled = a_document (us ++ (vs ++ g.others)) an_object (xs ++ g.value ∷ []) _ (simp append_assoc refl) refl all (later_object 1);
-      }))
-  | inr m ↦ inr (record { before = us; word = m.word; names = m.names; dot = m.dot; is = ap (λ ts. us ++ ts) m.is; is_import = m.is_import; is_name = m.is_name; is_dot = m.is_dot; viable = imports_end p })
+  | inl g ↦ inl (subst (λ ts. IsDocumentPrefix (us ++ ts)) (sym w.text) (import_begun us next xs w.token w.more p e (subst (Becoming AnyImport) w.text g)))
+  | inr m ↦ inr (record {
+    before = us;
+    word = m.word;
+    name = m.name;
+    dot = m.dot;
+    is = ap (λ ts. us ++ ts) m.is;
+    is_import = m.is_import;
+    is_name = m.is_name;
+    is_dot = m.is_dot;
+    viable = import_begun us next xs m.word (m.name ∷ []) p (e ∙ (sym (ap head w.text) ∙ ap head m.is)) m.going;
+  })
 ]
 
 one_import_halts : (us : List Token) (xs : List Import) (i : Input) (e : DocFault) → AreImports us (ahead i) xs → is_word ww.Import (ahead i) ≡ true → one_import xs i ≡ Err e → HaltsOn CanBegin us i e

@@ -1,28 +1,26 @@
--- What stands before the first fault of an import can go on, or it ends in the name of a module.
-use Rattle.std.proofs.Common.{◌≡◌, ℕ, ◌≤◌, ◌⊎◌, Bool, true, false, is_some, List, [], ◌∷◌, ◌++◌, Option, Some, Ok, Err, inl, inr, refl, sym, ap, subst, ◌∙◌, arith, codes}
+-- What stands before the first fault of an import can go on, or it ends with a dot behind the name of its module.
+use Rattle.std.proofs.Common.{◌≡◌, ℕ, ◌≤◌, ◌⊎◌, true, List, [], ◌∷◌, ◌++◌, Option, Err, inl, inr, refl, sym, subst, arith, codes}
 use Rattle.qml_ast.specs.declared.document.Import.{Import}
 use Rattle.qml_ast.specs.declared.fault.DocFault.{DocFault}
 use Rattle.qml_ast.specs.declared.fault.DocFault.TheVariants.{Unsupported}
 use Rattle.qml_ast.specs.declared.span.Span.{Span}
 use Rattle.qml_grammar.specs.DocumentGrammar.{IsName, IsImport, import as an_import}
-use Rattle.qml_grammar.specs.Documents.{module_part, module_rest, module_name, minor_of, is_decimal, version, unnamed, import_version, import_module, is_text, import_in}
+use Rattle.qml_grammar.specs.Documents.{is_qt_quick, module_name, second_part, minor_of, is_decimal, version, unnamed, import_version, behind_module, import_module, is_text, import_in}
 use Rattle.qml_grammar.specs.Ends.{ended}
 use Rattle.qml_grammar.specs.ExpressionGrammar.{IsMark}
-use Rattle.qml_grammar.specs.Inputs.{Input, ahead, after, place, any_name}
-use Rattle.qml_grammar.specs.Lexemes.{plain, decimal, Token, is_mark, is_word, is_name}
+use Rattle.qml_grammar.specs.Inputs.{Input, ahead, after, place}
+use Rattle.qml_grammar.specs.Lexemes.{plain, decimal, Token, tail, is_mark, is_word, is_name}
+use Rattle.qml_grammar.specs.Names.{name_is}
 use Rattle.qml_grammar.specs.StatementGrammar.{IsWord, semicolon}
 use Rattle.qml_grammar.specs.declared.mark.Mark.TheVariants.{Semicolon, Dot}
 use Rattle.qml_grammar.specs.declared.word.Word.TheVariants as ww
 use Rattle.grammar_laws.specs.Faults.{IsFaultAt, unsupported}
 use Rattle.grammar_laws.specs.Laws.{Way}
 use Rattle.grammar_laws.proofs.Local.{before, onward, bind_err, chosen, not_chosen, chosen_in}
-use Rattle.grammar_laws.proofs.Tools.{bind_ok, if_ok, ahead_some, way_token, way_then, named, same_input}
-use Rattle.grammar_laws.proofs.Viable.{name_once}
+use Rattle.grammar_laws.proofs.Tools.{if_ok, ahead_some, way_token}
 use Rattle.document_laws.proofs.Imports.{module_is, version_is, IsBare, bare, bare_covers}
-use Rattle.fault_laws.specs.Faults.{are_dotted, is_dotted}
-use Rattle.fault_laws.proofs.Dotted.{both_true}
 use Rattle.prefix_laws.proofs.DocumentSteps.{refused_place, unsupported_place, never, Becoming}
-use Rattle.prefix_laws.proofs.Going.{HaltsOn, Halts, halts_here, halts_as, halts_behind, halts_name, made_err, halts_ended, halts_while, fills, put, the_mark, mark_is}
+use Rattle.prefix_laws.proofs.Going.{HaltsOn, Halts, halts_here, halts_behind, made_err, halts_ended, fills, put, the_mark, mark_is}
 
 -- Imports that are made
 
@@ -40,40 +38,16 @@ import_with : (ts us : List Token) (t u v : Token) (minor : ℕ) → t ∷ u ∷
 import_with ts us t u v minor e word_is name_is v_is few =
     fills us 200 (record { «module» = codes "QtQuick"; major = 2; minor = minor; span = u.span }) (omega arith) e (λ next. an_import t u v (the_mark Semicolon ∷ []) minor refl refl word_is name_is v_is few refl (semicolon (the_mark Semicolon) refl (mark_is Semicolon)))
 
--- Names of modules
-
--- dots and names in turn, and a dot
-record EndsInDot (ts : List Token) : Type 0 where
-  names : List Token
-  dot : Token
-  is : ts ≡ names ++ dot ∷ []
-  dotted : are_dotted names ≡ true
-  is_dot : IsMark dot Dot
-
--- an import that ends with a dot in the name of its module
+-- an import that ends with a dot behind the name of its module; without the dot it goes on to an import
 pub record InModule (ts : List Token) : Type 0 where
   pub word : Token
-  pub names : List Token
+  pub name : Token
   pub dot : Token
-  pub is : ts ≡ word ∷ (names ++ dot ∷ [])
+  pub is : ts ≡ word ∷ name ∷ dot ∷ []
   pub is_import : IsWord word ww.Import
-  pub is_name : is_dotted names ≡ true
+  pub is_name : IsName name (codes "QtQuick")
   pub is_dot : IsMark dot Dot
-
-part_halts : (single : Bool) (i : Input) (e : DocFault) → is_mark Dot (ahead i) ≡ true → module_part single i ≡ Err e → Halts EndsInDot i e
-unfolding module_part
-part_halts single i e t h =
-    let o = ahead_some (is_mark Dot) refl i t in
-    halts_behind (way_token o.token o.rest) (halts_here (name_once (after i) e (made_err any_name _ (after i) e h)).place (record { names = []; dot = o.token; is = refl; dotted = refl; is_dot = o.is }))
-
-part_more : (single : Bool) (i : Input) (c : Bool) (k : Input) (e : DocFault) → is_mark Dot (ahead i) ≡ true → module_part single i ≡ Ok (c, k) → Halts EndsInDot k e → Halts EndsInDot i e
-unfolding module_part
-part_more single i c k e t h later =
-    let o = ahead_some (is_mark Dot) refl i t in
-    let b = bind_ok (any_name (after i)) _ _ h in
-    let n = named (after i) b.at b.value b.first in
-    let w : Way i k 0 (o.token ∷ n.token ∷ []) = subst (λ l. Way i l 0 (o.token ∷ n.token ∷ [])) (same_input false c b.at k b.onward) (way_then (way_token {i = i} o.token o.rest) n.way) in
-    halts_behind w (halts_as (λ us g. record { names = o.token ∷ n.token ∷ g.names; dot = g.dot; is = ap (λ ts. o.token ∷ n.token ∷ ts) g.is; dotted = both_true (both_true o.is (ap is_some n.is)) g.dotted; is_dot = g.is_dot }) later)
+  pub going : Becoming AnyImport (word ∷ name ∷ [])
 
 -- what stands before a fault of an import
 pub record IsImportPrefix (ts : List Token) : Type 0 where
@@ -89,17 +63,25 @@ going_with t ts us u v minor e word_is name_is v_is few = record { token = t; mo
 word_only : (t : Token) → IsWord t ww.Import → IsImportPrefix (t ∷ [])
 word_only t is = going_with t [] (quick ∷ two_zero ∷ the_mark Semicolon ∷ []) quick two_zero 0 refl is refl refl (omega arith)
 
-in_module : (t u : Token) (us : List Token) → IsWord t ww.Import → is_name (Some u) ≡ true → EndsInDot us → IsImportPrefix ((t ∷ u ∷ []) ++ us)
-in_module t u us is is_named g = record {
+in_module : (t u o : Token) → IsWord t ww.Import → IsName u (codes "QtQuick") → IsMark o Dot → IsImportPrefix (t ∷ u ∷ o ∷ [])
+in_module t u o is u_is o_is = record {
   token = t;
-  more = u ∷ us;
+  more = u ∷ o ∷ [];
   text = refl;
-  going = inr (record { word = t; names = u ∷ g.names; dot = g.dot; is = ap (λ ts. t ∷ u ∷ ts) g.is; is_import = is; is_name = both_true is_named g.dotted; is_dot = g.is_dot });
+  going = inr (record { word = t; name = u; dot = o; is = refl; is_import = is; is_name = u_is; is_dot = o_is; going = import_with (t ∷ u ∷ []) (two_zero ∷ the_mark Semicolon ∷ []) t u two_zero 0 refl is u_is refl (omega arith) });
 }
 
-module_halts : (t : Token) (i : Input) (e : DocFault) → IsWord t ww.Import → module_name i ≡ Err e → HaltsOn IsImportPrefix (t ∷ []) i e
-unfolding module_name module_rest
-module_halts t i e is h = halts_name _ i (word_only t is) (λ u n k f u_is w g. halts_as (λ us. in_module t u us is (ap is_some u_is)) (halts_while EndsInDot (is_mark Dot) module_part part_halts part_more _ k f g)) e h
+-- Modules
+
+module_place : (i : Input) (e : DocFault) → module_name i ≡ Err e → IsFaultAt e (place i)
+unfolding module_name
+module_place i e h = elim (if_ok (name_is is_qt_quick (ahead i)) _ _ _ h) [
+  | inl a ↦ never tt (after i) e a.1
+  | inr a ↦ elim (if_ok (is_name (ahead i)) _ _ _ a.1) [
+    | inl b ↦ unsupported_place {A = Unit {0}} i e b.1
+    | inr b ↦ refused_place {A = Unit {0}} i e b.1
+  ]
+]
 
 -- Versions
 
@@ -133,16 +115,25 @@ version_halts t u i k e is u_is w h = elim (bind_err (version (place i) k) _ _ h
       halts_behind w (halts_behind v.way (halts_here (unnamed_place l e (made_err unnamed _ l e g2)) (going_with t (u ∷ v.token ∷ []) (the_mark Semicolon ∷ []) u v.token m refl is u_is v.is v.few))))
 ]
 
+second_halts : (t u o : Token) (i k : Input) (e : DocFault) → IsWord t ww.Import → IsName u (codes "QtQuick") → IsMark o Dot → Way i k 0 (u ∷ []) → k.rest ≡ o ∷ tail k.rest → second_part (place i) (after k) ≡ Err e → HaltsOn IsImportPrefix (t ∷ []) i e
+unfolding second_part
+second_halts t u o i k e is u_is o_is w next h = elim (if_ok (is_name (ahead (after k))) _ _ _ h) [
+  | inl a ↦ halts_here (unsupported (let f = a.1 in cc)) (word_only t is)
+  | inr a ↦ halts_behind w (halts_behind (way_token o next) (halts_here (refused_place {A = Import} (after k) e a.1) (in_module t u o is u_is o_is)))
+]
+
+behind_halts : (t u : Token) (i k : Input) (e : DocFault) → IsWord t ww.Import → IsName u (codes "QtQuick") → Way i k 0 (u ∷ []) → behind_module (place i) k ≡ Err e → HaltsOn IsImportPrefix (t ∷ []) i e
+unfolding behind_module
+behind_halts t u i k e is u_is w h = elim (if_ok (is_mark Dot (ahead k)) _ _ _ h) [
+  | inl a ↦ (let o = ahead_some (is_mark Dot) refl k a.0 in second_halts t u o.token i k e is u_is o.is w o.rest a.1)
+  | inr a ↦ version_halts t u i k e is u_is w a.1
+]
+
 import_module_halts : (t : Token) (i : Input) (e : DocFault) → IsWord t ww.Import → import_module i ≡ Err e → HaltsOn IsImportPrefix (t ∷ []) i e
 unfolding import_module
 import_module_halts t i e is h = elim (bind_err (module_name i) _ _ h) [
-  | before g ↦ module_halts t i e is g
-  | onward ours k g g2 ↦ elim (if_ok ours _ _ _ g2) [
-    | inl a ↦ (
-        let u = module_is i k (g ∙ ap (λ b. Ok (b, k)) a.0) in
-        version_halts t u.token i k e is u.is u.way a.1)
-    | inr a ↦ halts_here (unsupported_place {A = Import} i e a.1) (word_only t is)
-  ]
+  | before g ↦ halts_here (module_place i e g) (word_only t is)
+  | onward v k g g2 ↦ (let u = module_is i v k g in behind_halts t u.token i k e is u.is u.way g2)
 ]
 
 import_halts : (i : Input) (e : DocFault) → is_word ww.Import (ahead i) ≡ true → import_in i ≡ Err e → Halts IsImportPrefix i e

@@ -1,11 +1,11 @@
 -- What it means that tokens can go on: with others behind them the productions spell something, where an
 -- expression may have as many nodes as it takes, and one level more may be opened.
-use Rattle.std.specs.Prelude.{◌≡◌, ℕ, suc, true, List, [], ◌∷◌, ◌++◌, ◌⊎◌, Option}
+use Rattle.std.specs.Prelude.{◌≡◌, ℕ, suc, true, List, [], ◌∷◌, ◌++◌, ◌⊎◌, Option, codes}
 use Rattle.qml_ast.specs.declared.document.Document.{Document}
 use Rattle.qml_ast.specs.declared.fault.DocFault.{DocFault}
 use Rattle.qml_ast.specs.declared.span.Span.{Span}
 use Rattle.qml_ast.specs.declared.stmt.Stmt.{Stmt}
-use Rattle.qml_grammar.specs.DocumentGrammar.{IsDocumentWithin}
+use Rattle.qml_grammar.specs.DocumentGrammar.{IsName, IsDocumentWithin}
 use Rattle.qml_grammar.specs.ExpressionGrammar.{IsMark}
 use Rattle.qml_grammar.specs.Inputs.{Input, place}
 use Rattle.qml_grammar.specs.Lexemes.{Token, is_mark}
@@ -14,7 +14,7 @@ use Rattle.qml_grammar.specs.declared.mark.Mark.TheVariants.{CloseBrace, Dot}
 use Rattle.qml_grammar.specs.declared.word.Word.TheVariants.{Import}
 use Rattle.grammar_laws.specs.Faults.{IsFaultAt}
 use Rattle.grammar_laws.specs.Laws.{Way}
-use Rattle.fault_laws.specs.Faults.{is_dotted, place_before}
+use Rattle.fault_laws.specs.Faults.{place_before}
 
 -- the fault stands behind such tokens
 pub record FaultsBehind (Prefix : List Token → Type 0) (i : Input) (fault : DocFault) : Type 0 where
@@ -39,18 +39,17 @@ pub record IsDocumentPrefix (text : List Token) : Type 0 where
   pub value : Document
   pub spelled : IsDocumentWithin most 65 (text ++ others) value
 
--- The tokens end with a dot in the name of a module, which no document has: a module is named by one name.
--- Those before the import can go on.
+-- The tokens end with a dot behind the name of a module, which no document has. Those before the dot can go on.
 pub record EndsInModule (text : List Token) : Type 0 where
   pub before : List Token
   pub word : Token
-  pub names : List Token
+  pub name : Token
   pub dot : Token
-  pub is : text ≡ before ++ word ∷ (names ++ dot ∷ [])
+  pub is : text ≡ before ++ word ∷ name ∷ dot ∷ []
   pub is_import : IsWord word Import
-  pub is_name : is_dotted names ≡ true
+  pub is_name : IsName name (codes "QtQuick")
   pub is_dot : IsMark dot Dot
-  pub viable : IsDocumentPrefix before
+  pub viable : IsDocumentPrefix (before ++ word ∷ name ∷ [])
 
 -- what stands before a document's first fault: the tokens before the one at which the fault has its place
 pub record PrefixBeforeFault (ts : List Token) (end : Span) (fault : DocFault) : Type 0 where

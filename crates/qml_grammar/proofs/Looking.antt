@@ -1,20 +1,18 @@
--- A name that is written like none of the words is no word.
-use Rattle.std.proofs.Common.{◌≡◌, ℕ, Bool, true, false, List, [], ◌∷◌, Option, None, Some, if◌then◌else◌, refl, sym}
-use Rattle.std.proofs.lemmas.Slice.Eq.{bytes_eq-Decides}
-use Rattle.std.specs.List.{AllByRecursion}
-use Rattle.std.specs.Prelude.{bytes_eq, find}
-use Rattle.qml_grammar.specs.Words.{word_text, word_of, all_words}
-use Rattle.qml_grammar.specs.declared.word.Word.{Word}
+-- Looking for the first of a list's items that passes a test, from the front on.
+use Rattle.std.proofs.Common.{add-one, ◌≡◌, ℕ, zero, suc, ◌+◌, ◌<◌, Bool, true, false, List, [], ◌∷◌, length, take, slice_index_or, find, None, Some, arith}
 
-skipped : (b : Bool) (w : Word) (text name : List ℕ) (ws : List Word) → (b ≡ true → text ≡ name) → (name ≡ text → ⊥) → find (λ v. bytes_eq (word_text v) name) ws ≡ None
-    → ◌≡◌ {A = Option Word} (if b then Some w else find (λ v. bytes_eq (word_text v) name) ws) None
-skipped true w text name ws same other rest = absurd (other (sym (same refl)))
-skipped false w text name ws same other rest = rest
+-- where none before it passes the test, an item that does is found
+pub found_at : {X : Type 0} (p : X → Bool) (xs : List X) (i : ℕ) (d : X) → find p (take i xs) ≡ None → i < length xs → p (slice_index_or xs i d) ≡ true → find p xs ≡ Some (slice_index_or xs i d)
+found_at p [] i d none within holds = grind arith
+found_at p (y ∷ ys) zero d none within holds = rw holds
+found_at p (y ∷ ys) (suc i) d none within holds = grind (arith, found_at p ys i d)
 
-none_found : (name : List ℕ) (ws : List Word) → AllByRecursion (λ w. name ≡ word_text w → ⊥) ws → find (λ w. bytes_eq (word_text w) name) ws ≡ None
-none_found name [] others = refl
-none_found name (w ∷ ws) others = skipped (bytes_eq (word_text w) name) w (word_text w) name ws (bytes_eq-Decides (word_text w) name).0 others.0 (none_found name ws others.1)
+-- where neither an item nor one before it passes the test, none is found up to it
+none_more : {X : Type 0} (p : X → Bool) (xs : List X) (i : ℕ) (d : X) → find p (take i xs) ≡ None → i < length xs → p (slice_index_or xs i d) ≡ false → find p (take (suc i) xs) ≡ None
+none_more p [] i d none within fails = grind arith
+none_more p (y ∷ ys) zero d none within fails = rw fails
+none_more p (y ∷ ys) (suc i) d none within fails = grind (arith, none_more p ys i d)
 
-pub no_word : (name : List ℕ) → AllByRecursion (λ w. name ≡ word_text w → ⊥) all_words → None ≡ word_of name
-unfolding word_of
-no_word name others = sym (none_found name all_words others)
+-- likewise, as a loop counts
+pub none_next : {X : Type 0} (p : X → Bool) (xs : List X) (i : ℕ) (d : X) → find p (take i xs) ≡ None → i < length xs → p (slice_index_or xs i d) ≡ false → find p (take (i + 1) xs) ≡ None
+none_next p xs i d none within fails = rw (add-one i) (none_more p xs i d none within fails)

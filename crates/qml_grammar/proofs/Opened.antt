@@ -7,7 +7,7 @@ use Rattle.qml_grammar.specs.Samples.{number_piece, name_piece, text_piece, mark
 use Rattle.qml_grammar.specs.Expressions.{parens, atom, primary, member, argument, some_arguments, arguments, call, postfix, postfixes, operated, unary_in, joined, operator, chain, products, sums, orders, equalities, conjunctions, disjunctions, branches, conditional, expr_in, inner, expr, whole}
 use Rattle.qml_grammar.specs.Ends.{end_behind, ended}
 use Rattle.qml_grammar.specs.Statements.{no_target, target_name, target_in, target, assigned, stepped, step_or, change_or, initial, local, returned, leave, acted, act, simple_local, simple_change, simple, simple_before, test, begun, block_statement, empty_statement, condition, otherwise, choice, while_statement, for_body, for_step, for_test, for_statement, by_word, statement_in, one_more, statements, braces, bodies, statement}
-use Rattle.qml_grammar.specs.Documents.{body, object_in, object_value, expr_value, value_in, id_member, kind, property_kind, property_value, kind_and_name, property, fixed_property, signal_param, more_signal_params, some_signal_params, signal_params, signal_member, method_param, more_method_params, some_method_params, method_params, method_block, method_behind, method, second_name, path_behind, path, handled, initialised, behind_path, path_member, entry_name, entry, one_entry, entries, alone, child, grouped, named_member, other_member, member_in, one_member, members, member_braces, group_braces, under, module_part, module_rest, module_name, version, unnamed, import_version, import_module, import_in, one_import, imports, root, nothing_more, document, reading}
+use Rattle.qml_grammar.specs.Documents.{body, object_in, object_value, expr_value, value_in, id_member, kind, property_kind, property_value, kind_and_name, property, fixed_property, signal_param, more_signal_params, some_signal_params, signal_params, signal_member, method_param, more_method_params, some_method_params, method_params, method_block, method_behind, method, second_name, path_behind, path, handled, initialised, behind_path, path_member, entry_name, entry, one_entry, entries, alone, child, grouped, named_member, other_member, member_in, one_member, members, member_braces, group_braces, under, module_name, second_part, version, unnamed, import_version, behind_module, import_module, import_in, one_import, imports, root, nothing_more, document, reading}
 use Rattle.qml_grammar.specs.FaultCases.{first_fault, semicolon_cases, line_cases, word_cases, unsupported_cases, type_name_cases, handler_cases, import_cases, statement_cases, end_cases, level_cases, node_cases}
 use Rattle.qml_grammar.specs.TreeCases.{said}
 use Rattle.qml_grammar.specs.PrintCases.{canonical_expr, expr_prints}
@@ -25,7 +25,7 @@ unfolding end_behind ended no_target target_name target_in target assigned stepp
 opened_statements = tt
 
 unfoldable pub opened_documents : Unit {0}
-unfolding body object_in object_value expr_value value_in id_member kind property_kind property_value kind_and_name property fixed_property signal_param more_signal_params some_signal_params signal_params signal_member method_param more_method_params some_method_params method_params method_block method_behind method second_name path_behind path handled initialised behind_path path_member entry_name entry one_entry entries alone child grouped named_member other_member member_in one_member members member_braces group_braces under module_part module_rest module_name version unnamed import_version import_module import_in one_import imports root nothing_more document reading first_fault semicolon_cases line_cases word_cases unsupported_cases type_name_cases handler_cases import_cases statement_cases end_cases level_cases node_cases opened_statements
+unfolding body object_in object_value expr_value value_in id_member kind property_kind property_value kind_and_name property fixed_property signal_param more_signal_params some_signal_params signal_params signal_member method_param more_method_params some_method_params method_params method_block method_behind method second_name path_behind path handled initialised behind_path path_member entry_name entry one_entry entries alone child grouped named_member other_member member_in one_member members member_braces group_braces under module_name second_part version unnamed import_version behind_module import_module import_in one_import imports root nothing_more document reading first_fault semicolon_cases line_cases word_cases unsupported_cases type_name_cases handler_cases import_cases statement_cases end_cases level_cases node_cases opened_statements
 opened_documents = tt
 
 unfoldable pub opened_trees : Unit {0}

@@ -125,7 +125,7 @@ mutual
     no_members : {d : ℕ} {ts : List Token} {next : Option Token} {xs : List Member} → ts ≡ [] → xs ≡ [] → AreMembers most d ts next xs
     more_members : {d : ℕ} {ts : List Token} {next : Option Token} {xs : List Member} (us vs : List Token) (ys zs : List Member) → ts ≡ us ++ vs → xs ≡ ys ++ zs → IsMember most d us (follow vs next) ys → AreMembers most d vs next zs → AreMembers most d ts next xs
 
--- "import" Name { "." Name } Decimal end, which is QtQuick 2.0 to 2.15
+-- "import" Name Decimal end, which is QtQuick 2.0 to 2.15
 pub data IsImport : List Token → Option Token → Import → Type 0 where
   import : {ts : List Token} {next : Option Token} {x : Import} (t u v : Token) (es : List Token) (minor : ℕ) → ts ≡ t ∷ u ∷ v ∷ es → x ≡ record { «module» = codes "QtQuick"; major = 2; minor = minor; span = u.span } → IsWord t ww.Import → IsName u (codes "QtQuick") → v.lexeme ≡ decimal 2 minor → minor ≤ 15 → is_word ww.As (follow es next) ≡ false → IsEnd (Some v) es next → IsImport ts next x
 

@@ -19,7 +19,7 @@ use Rattle.qml_ast.specs.declared.stmt.Stmt.{Stmt}
 use Rattle.qml_grammar.specs.Ends.{ended}
 use Rattle.qml_grammar.specs.Expressions.{whole}
 use Rattle.qml_grammar.specs.Inputs.{Parser, ahead, after, place, refusal, refused, too_deep, pure, ◌>>=◌, ◌>>◌, while_next, take_token, expect, any_name}
-use Rattle.qml_grammar.specs.Lexemes.{Lexeme, decimal, text, Token, head, tail, is_mark, is_word, name_of}
+use Rattle.qml_grammar.specs.Lexemes.{Lexeme, decimal, text, Token, head, tail, is_mark, is_word, is_name, name_of}
 use Rattle.qml_grammar.specs.Names.{upper_first, is_handler_name, is_handler_path, name_is, is_dotted_type, is_dotted_kind, begins_object, begins_group}
 use Rattle.qml_grammar.specs.Statements.{bodies, statement, goes_on_inside}
 use Rattle.qml_grammar.specs.declared.mark.Mark.TheVariants.{OpenBrace, CloseBrace, OpenParen, CloseParen, Colon, Comma, Dot}
@@ -328,22 +328,16 @@ under (suc d) = record { members = member_braces d (under d); group = group_brac
 
 -- Imports
 
--- one more name of a module, behind its dot
-unfoldable pub module_part : Bool → Parser Bool
-module_part single = do
-  take_token
-  n ← any_name
-  pure false
+abbrev pub is_qt_quick : List ℕ → Bool
+is_qt_quick n = bytes_eq n (codes "QtQuick")
 
--- the rest of a module's name; whether the name is just this one
-unfoldable pub module_rest : List ℕ → Parser Bool
-module_rest n = while_next (is_mark Dot) module_part (bytes_eq n (codes "QtQuick"))
+-- the first name of a module, by which another module than QtQuick shows
+unfoldable pub module_name : Parser (Unit {0})
+module_name i = if name_is is_qt_quick (ahead i) then Ok (tt, after i) else (if is_name (ahead i) then unsupported i else refused i)
 
--- the name of a module; whether it is QtQuick
-unfoldable pub module_name : Parser Bool
-module_name = do
-  n ← any_name
-  module_rest n
+-- behind a dot: with a second name it is another module, whose first name stands at the given place
+unfoldable pub second_part : Span → Parser Import
+second_part at i = if is_name (ahead i) then Err (Unsupported at) else Err (refusal i)
 
 -- the second part of a lawful version
 abbrev pub minor_of_lexeme : Lexeme → Option ℕ
@@ -376,8 +370,12 @@ import_version at = do
   unnamed
   pure (record { «module» = codes "QtQuick"; major = 2; minor = minor; span = at })
 
+-- what stands behind the first name of a module, the place of which is given
+unfoldable pub behind_module : Span → Parser Import
+behind_module at i = if is_mark Dot (ahead i) then (do take_token; second_part at) i else import_version at i
+
 unfoldable pub import_module : Parser Import
-import_module i = (do ours ← module_name; λ j. if ours then import_version (place i) j else Err (Unsupported (place i))) i
+import_module i = (do module_name; behind_module (place i)) i
 
 abbrev pub is_text_lexeme : Lexeme → Bool
 is_text_lexeme (text s) = true
@@ -387,7 +385,7 @@ abbrev pub is_text : Option Token → Bool
 is_text None = false
 is_text (Some t) = is_text_lexeme t.lexeme
 
--- "import" Name { "." Name } Decimal
+-- "import" Name Decimal
 unfoldable pub import_in : Parser Import
 import_in = do
   take_token

@@ -165,6 +165,12 @@ import_cases =
     one (codes "import QtQuick 2.16") (Some (Unsupported (at 1 8))) ∷
     one (codes "import QtQuick 3.0") (Some (Unsupported (at 1 8))) ∷
     one (codes "import QtQuick . 5") (Some (Syntax (at 1 18))) ∷
+    one (codes "import QtQuick .") (Some (Syntax (at 1 17))) ∷
+    one (codes "import QtQuick. 2.1") (Some (Unsupported (at 1 17))) ∷
+    one (codes "import QtQuick2.15") (Some (Unsupported (at 1 8))) ∷
+    one (codes "import Foo . 5") (Some (Unsupported (at 1 8))) ∷
+    one (codes "import QtQuick.Foo . 5") (Some (Unsupported (at 1 8))) ∷
+    one (codes "import QtQuick.QtQuick") (Some (Unsupported (at 1 8))) ∷
     one (codes "import QtQuick.Controls 2.0") (Some (Unsupported (at 1 8))) ∷
     one (codes "import \"a.js\"") (Some (Unsupported (at 1 8))) ∷
     one (codes "import QtQuick 2.0 as Q") (Some (Unsupported (at 1 20))) ∷

@@ -28,7 +28,8 @@ abbrev pub is_target : List Token → Bool
 is_target [] = false
 is_target (t ∷ ts) = is_some (operand_name_of (Some t)) && are_members ts
 
--- that no target begins with the next token: as where a statement begins, but that no `{` is one of QML's there
+-- the fault at a token with which no target begins: the one that it has where an expression should begin, but that
+-- a `{` is Syntax, as QML has none there either
 unfoldable pub no_target : Parser Expr
 no_target i = if is_mark OpenBrace (ahead i) then Err (refusal i) else Err (operand_refusal i)
 

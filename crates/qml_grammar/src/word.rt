@@ -179,51 +179,14 @@ impl Word {
     }
 
     /// The word that is written so, or None where the name is a name like others.
-    #[tactic(auto, unfolding(crate::specs::Words::word_of, crate::specs::Words::word_text))]
     pub fn of_name(name: &str) -> Option<Word>
         ensures { result ≡ word_of name.now }
     {
-        match name {
-            "var" => Some(Word::Var),
-            "let" => Some(Word::Let),
-            "const" => Some(Word::Const),
-            "if" => Some(Word::If),
-            "else" => Some(Word::Else),
-            "while" => Some(Word::While),
-            "for" => Some(Word::For),
-            "return" => Some(Word::Return),
-            "true" => Some(Word::True),
-            "false" => Some(Word::False),
-            "null" => Some(Word::Null),
-            "undefined" => Some(Word::Undefined),
-            "function" => Some(Word::Function),
-            "switch" => Some(Word::Switch),
-            "do" => Some(Word::Do),
-            "break" => Some(Word::Break),
-            "continue" => Some(Word::Continue),
-            "try" => Some(Word::Try),
-            "throw" => Some(Word::Throw),
-            "new" => Some(Word::New),
-            "delete" => Some(Word::Delete),
-            "typeof" => Some(Word::TypeOf),
-            "instanceof" => Some(Word::InstanceOf),
-            "in" => Some(Word::In),
-            "void" => Some(Word::Void),
-            "with" => Some(Word::With),
-            "class" => Some(Word::Class),
-            "this" => Some(Word::This),
-            "id" => Some(Word::Id),
-            "property" => Some(Word::Property),
-            "readonly" => Some(Word::ReadOnly),
-            "signal" => Some(Word::Signal),
-            "default" => Some(Word::Default),
-            "enum" => Some(Word::Enum),
-            "required" => Some(Word::Required),
-            "alias" => Some(Word::Alias),
-            "on" => Some(Word::On),
-            "import" => Some(Word::Import),
-            "as" => Some(Word::As),
-            _ => None,
+        for word in &Word::ALL {
+            if word.as_str() == name {
+                return Some(*word);
+            }
         }
+        None
     }
 }

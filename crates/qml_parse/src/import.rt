@@ -1,14 +1,13 @@
-ghost use Rattle.std.specs.Prelude.{◌≡◌, codes, bytes_eq};
+ghost use Rattle.std.specs.Prelude.{◌≡◌};
 ghost use Rattle.qml_grammar.specs.Documents as spec;
 ghost use Rattle.qml_grammar.specs.Ends.{ended};
 ghost use Rattle.qml_grammar.specs.Inputs.{ahead, while_next};
-ghost use Rattle.qml_grammar.specs.Lexemes.{is_mark, is_word};
-ghost use Rattle.qml_grammar.specs.declared.mark.Mark.TheVariants.{Dot};
+ghost use Rattle.qml_grammar.specs.Lexemes.{is_word};
 ghost use Rattle.qml_grammar.specs.declared.word.Word.TheVariants as words;
 ghost use Rattle.qml_expr.specs.Readings.{IsReading};
 ghost use Rattle.qml_expr.specs.Seen.{input_of, lexeme_of};
 
-use crate::lookahead::unsupported;
+use crate::lookahead::{sees_name, sees_qt_quick, unsupported};
 use qml_ast::{DocFault, Import, Name, Span};
 use qml_expr::{Cursor, Lexeme};
 use qml_grammar::{Mark, Word};
@@ -18,46 +17,30 @@ use std::alloc::Global;
 
 // The name of a module
 
-// One more name of a module, behind its dot. The module is then not QtQuick.
-#[tactic(auto, unfolding(qml_grammar::specs::Documents::module_part))]
-fn module_part(alloc: Global, single: bool, cursor: &mut Cursor<'_>) -> Result<bool, DocFault>
-    ensures { IsReading (spec.module_part single (input_of cursor.old)) result (input_of cursor.new) }
-{
-    cursor.skip();
-    let _name = cursor.any_name(alloc)?;
-    Ok(false)
-}
-
-// The further names of a module, each behind a dot; whether the module is QtQuick. `single` says whether it
-// is so if it has no further name.
-fn module_parts(alloc: Global, single: bool, cursor: &mut Cursor<'_>) -> Result<bool, DocFault>
-    ensures { IsReading (while_next (is_mark Dot) spec.module_part single (input_of cursor.old)) result (input_of cursor.new) }
-{
-    let mut ours = single;
-    // Each turn takes a token.
-    for _turn in 0..cursor.left() {
-        if !cursor.sees(Mark::Dot) {
-            return Ok(ours);
-        }
-        ours = module_part(alloc, ours, cursor)?;
-    }
-    Ok(ours)
-}
-
-// Whether a name is QtQuick's.
-fn is_qt_quick(name: &Name) -> bool
-    ensures { result ≡ bytes_eq name.now (codes "QtQuick") }
-{
-    name.as_str() == "QtQuick"
-}
-
-// The name of a module; whether it is QtQuick.
-#[tactic(auto, unfolding(qml_grammar::specs::Documents::module_name, qml_grammar::specs::Documents::module_rest))]
-fn module_name(alloc: Global, cursor: &mut Cursor<'_>) -> Result<bool, DocFault>
+// The first name of a module, which is QtQuick.
+#[tactic(auto, unfolding(qml_grammar::specs::Documents::module_name))]
+fn module_name(cursor: &mut Cursor<'_>) -> Result<(), DocFault>
     ensures { IsReading (spec.module_name (input_of cursor.old)) result (input_of cursor.new) }
 {
-    let name = cursor.any_name(alloc)?;
-    module_parts(alloc, is_qt_quick(&name), cursor)
+    if sees_qt_quick(cursor) {
+        cursor.skip();
+        return Ok(());
+    }
+    if sees_name(cursor) {
+        return Err(unsupported(cursor));
+    }
+    Err(cursor.refusal())
+}
+
+// Refuses what stands behind the dot behind the name of a module, which stands at `at`.
+#[tactic(auto, unfolding(qml_grammar::specs::Documents::second_part))]
+fn second_part(at: Span, cursor: &Cursor<'_>) -> Result<Import, DocFault>
+    ensures { IsReading (spec.second_part at (input_of cursor.now)) result (input_of cursor.now) }
+{
+    if sees_name(cursor) {
+        return Err(DocFault::Unsupported { at });
+    }
+    Err(cursor.refusal())
 }
 
 // The version
@@ -149,16 +132,26 @@ fn import_version(alloc: Global, span: Span, cursor: &mut Cursor<'_>) -> Result<
     })
 }
 
+// The version behind the name of a module, which stands at `span`.
+#[tactic(auto, unfolding(qml_grammar::specs::Documents::behind_module))]
+fn behind_module(alloc: Global, span: Span, cursor: &mut Cursor<'_>) -> Result<Import, DocFault>
+    ensures { IsReading (spec.behind_module span (input_of cursor.old)) result (input_of cursor.new) }
+{
+    if cursor.sees(Mark::Dot) {
+        cursor.skip();
+        return second_part(span, cursor);
+    }
+    import_version(alloc, span, cursor)
+}
+
 // The module and its version.
 #[tactic(auto, unfolding(qml_grammar::specs::Documents::import_module))]
 fn import_module(alloc: Global, cursor: &mut Cursor<'_>) -> Result<Import, DocFault>
     ensures { IsReading (spec.import_module (input_of cursor.old)) result (input_of cursor.new) }
 {
     let span = cursor.place();
-    if !module_name(alloc, cursor)? {
-        return Err(DocFault::Unsupported { at: span });
-    }
-    import_version(alloc, span, cursor)
+    module_name(cursor)?;
+    behind_module(alloc, span, cursor)
 }
 
 // `import`, a module and its version, without an end.

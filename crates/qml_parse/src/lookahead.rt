@@ -105,6 +105,31 @@ pub(crate) fn sees_handler_name(cursor: &Cursor<'_>) -> bool
     }
 }
 
+/// Whether the next token is a name.
+#[tactic(auto, unfolding(qml_expr::specs::Seen::input_of))]
+pub(crate) fn sees_name(cursor: &Cursor<'_>) -> bool
+    ensures { result ≡ lexemes.is_name (inputs.ahead (input_of cursor.now)) }
+{
+    match cursor.rest {
+        [token, ..] => token.lexeme.is_name(),
+        [] => false,
+    }
+}
+
+/// Whether the next token is the name QtQuick.
+#[tactic(auto, unfolding(qml_expr::specs::Seen::input_of))]
+pub(crate) fn sees_qt_quick(cursor: &Cursor<'_>) -> bool
+    ensures { result ≡ names.name_is spec.is_qt_quick (inputs.ahead (input_of cursor.now)) }
+{
+    match cursor.rest {
+        [token, ..] => match name_of(&token.lexeme) {
+            Some(name) => name == b"QtQuick".as_slice(),
+            None => false,
+        },
+        [] => false,
+    }
+}
+
 /// Whether there is a next token, and it is not `}`.
 #[tactic(auto, unfolding(qml_expr::specs::Seen::input_of))]
 pub(crate) fn goes_on_inside(cursor: &Cursor<'_>) -> bool

@@ -28,7 +28,8 @@ pub(crate) fn unboxed(value: Option<Boxed<Expr>>) -> Option<Expr>
 
 // Targets and their changes
 
-// That no target begins with the next token: as where a statement begins, but that no `{` is one of QML's there.
+// The fault at a token with which no target begins: the one that it has where an expression should begin, but that
+// a `{` is Syntax, as QML has none there either.
 #[tactic(auto, unfolding(qml_grammar::specs::Statements::no_target))]
 fn no_target(cursor: &Cursor<'_>) -> Result<Boxed<Expr>, DocFault>
     ensures { IsReading (spec.no_target (input_of cursor.now)) result (input_of cursor.now) }

@@ -1,125 +1,17 @@
-use Rattle.qml_grammar.specs.Words.{word_text}
-use Rattle.qml_grammar.proofs.Looking.{no_word}
+use Rattle.std.proofs.Common.{◌∙◌, sym, ap, arith, bytes_eq, find}
+use Rattle.std.proofs.lemmas.List.{take_all}
+use Rattle.qml_grammar.specs.Words.{word_text, word_of, all_words}
+use Rattle.qml_grammar.specs.declared.word.Word.TheVariants.{Var}
+use Rattle.qml_grammar.proofs.Looking.{found_at, none_next}
 use Rattle.qml_grammar.proofs.word.Word.of_name.Goals as goal
 
-pub returns-in_default : goal.returns-in_default
-unfolding word_text
-returns-in_default c =
-    no_word c.args.name.now (
-      c.in_default.not-var,
-      (
-        c.in_default.not-let,
-        (
-          c.in_default.not-const,
-          (
-            c.in_default.not-if,
-            (
-              c.in_default.not-else,
-              (
-                c.in_default.not-while,
-                (
-                  c.in_default.not-for,
-                  (
-                    c.in_default.not-return,
-                    (
-                      c.in_default.not-true,
-                      (
-                        c.in_default.not-false,
-                        (
-                          c.in_default.not-null,
-                          (
-                            c.in_default.not-undefined,
-                            (
-                              c.in_default.not-function,
-                              (
-                                c.in_default.not-switch,
-                                (
-                                  c.in_default.not-do,
-                                  (
-                                    c.in_default.not-break,
-                                    (
-                                      c.in_default.not-continue,
-                                      (
-                                        c.in_default.not-try,
-                                        (
-                                          c.in_default.not-throw,
-                                          (
-                                            c.in_default.not-new,
-                                            (
-                                              c.in_default.not-delete,
-                                              (
-                                                c.in_default.not-typeof,
-                                                (
-                                                  c.in_default.not-instanceof,
-                                                  (
-                                                    c.in_default.not-in,
-                                                    (
-                                                      c.in_default.not-void,
-                                                      (
-                                                        c.in_default.not-with,
-                                                        (
-                                                          c.in_default.not-class,
-                                                          (
-                                                            c.in_default.not-this,
-                                                            (
-                                                              c.in_default.not-id,
-                                                              (
-                                                                c.in_default.not-property,
-                                                                (
-                                                                  c.in_default.not-readonly,
-                                                                  (
-                                                                    c.in_default.not-signal,
-                                                                    (
-                                                                      c.in_default.not-text,
-                                                                      (
-                                                                        c.in_default.not-enum,
-                                                                        (
-                                                                          c.in_default.not-required,
-                                                                          (
-                                                                            c.in_default.not-alias,
-                                                                            (
-                                                                              c.in_default.not-on,
-                                                                              (
-                                                                                c.in_default.not-import,
-                                                                                (
-                                                                                  c.in_default.not-as,
-                                                                                  tt,
-                                                                                ),
-                                                                              ),
-                                                                            ),
-                                                                          ),
-                                                                        ),
-                                                                      ),
-                                                                    ),
-                                                                  ),
-                                                                ),
-                                                              ),
-                                                            ),
-                                                          ),
-                                                        ),
-                                                      ),
-                                                    ),
-                                                  ),
-                                                ),
-                                              ),
-                                            ),
-                                          ),
-                                        ),
-                                      ),
-                                    ),
-                                  ),
-                                ),
-                              ),
-                            ),
-                          ),
-                        ),
-                      ),
-                    ),
-                  ),
-                ),
-              ),
-            ),
-          ),
-        ),
-      ),
-    )
+pub returns-then-eq : goal.returns-then-eq
+unfolding word_of
+returns-then-eq c = sym (found_at (λ w. bytes_eq (word_text w) c.args.name.now) all_words c.loop-word.word-index Var c.loop-word.invariant c.loop-word-test.true (sym (ap (λ t. bytes_eq t c.args.name.now) c.as_str.ensures) ∙ (sym c.eq.ensures ∙ c.if-eq.true)))
+
+pub loop-word-preserved : goal.loop-word-preserved
+loop-word-preserved c = none_next (λ w. bytes_eq (word_text w) c.args.name.now) all_words c.loop-word.word-index Var c.loop-word.invariant c.loop-word-test.true (sym (ap (λ t. bytes_eq t c.args.name.now) c.as_str.ensures) ∙ (sym c.eq.ensures ∙ c.if-eq.false))
+
+pub returns : goal.returns
+unfolding word_of
+returns c = sym (ap (find (λ w. bytes_eq (word_text w) c.args.name.now)) (sym (take_all c.loop-word.word-index all_words (omega arith))) ∙ c.loop-word.invariant)
