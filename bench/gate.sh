@@ -7,7 +7,7 @@ set -euo pipefail
 top=$(cd "$(dirname "$0")/.." && pwd)
 folder=$(mktemp -d)
 trap 'rm -rf "$folder"' EXIT
-mkdir -p "$folder/crates/turns/src" "$folder/crates/turns/specs" "$folder/crates/turns/proofs/ask_all"
+mkdir -p "$folder/crates/turns/src" "$folder/crates/turns/specs" "$folder/crates/turns/proofs/ask_all" "$folder/crates/turns/proofs/serve"
 cp -r "$top/crates/baton" "$folder/crates/baton"
 cp "$top/HANDLES" "$folder/HANDLES"
 printf 'baton: atomic_table\nturns: baton crossbeam_channel\n' > "$folder/crates.txt"
@@ -58,12 +58,12 @@ impl Promise<Server<Flips>> for Served {
     ghost kept_by = { λ promise server. (server.gate ≡ promise.0.value.gate) × (server.stage ≡ Dismissed) };
 }
 
-fn serve<R: Wait>(rt: &R, mut server: Server<Flips>) -> Server<Flips>
+fn serve<R: Wait + Copy>(rt: R, mut server: Server<Flips>) -> Server<Flips>
     requires { server.stage ≡ Waiting }
     ensures { (result.gate ≡ server.gate) × (result.stage ≡ Dismissed) }
 {
     for _ in rt.forever() {
-        let Some(question) = server.next(rt) else {
+        let Some(question) = server.next(&rt) else {
             return server;
         };
         server.answer(question ^ 1);
@@ -86,7 +86,7 @@ fn ask_all<R: Wait>(rt: &R, asker: &mut Asker<Flips>) -> u64
 fn over_a_gate<R: Threads + Wait + Copy + Send + 'static>(rt: R, alloc: Global) -> Result<u64, AllocError> {
     let (mut asker, server) = pair::<Flips>(alloc)?;
     let promise = Served(Snapshot::of(&server));
-    match thread::spawn_with(&rt, promise, move || serve(&rt, server)) {
+    match thread::spawn_with(&rt, promise, move || serve(rt, server)) {
         Ok(child) => {
             let last = ask_all(&rt, &mut asker);
             asker.close().meet(child.join(&rt));
@@ -139,6 +139,23 @@ fn main(rt: HostRuntime) -> io::Result<()> {
     Ok(())
 }
 PROGRAM
+: > "$folder/crates/turns/proofs/Lib.antt"
+cat > "$folder/crates/turns/proofs/serve/Invariants.antt" <<'INVARIANT'
+use Rattle.std.proofs.Common.{◌≡◌}
+use Rattle.baton.specs.declared.view.Stage.TheVariants.{Waiting}
+use Rattle.turns.proofs.serve.Given as goal
+
+abbrev pub invariant-loop : goal.invariant-loop
+invariant-loop g l = (l.server.stage ≡ Waiting) × (l.server.gate ≡ l.initial.server.gate)
+INVARIANT
+cat > "$folder/crates/turns/proofs/ask_all/Invariants.antt" <<'INVARIANT'
+use Rattle.std.proofs.Common.{◌≡◌}
+use Rattle.baton.specs.declared.view.Stage.TheVariants.{Idle}
+use Rattle.turns.proofs.ask_all.Given as goal
+
+abbrev pub invariant-loop : goal.invariant-loop
+invariant-loop g l = (l.asker.stage ≡ Idle) × (l.asker.gate ≡ l.initial.asker.gate)
+INVARIANT
 cd "$folder/crates/turns"
 rt run > "$folder/log" 2>&1 || { cat "$folder/log"; exit 1; }
 awk '$1 == "turns" { printf "gate: %.0f turns a second, %.1f us a turn; channels: %.0f turns a second, %.1f us a turn\n", 1e14 / $2, $2 / 1e8, 1e14 / $3, $3 / 1e8 }' "$folder/log"
