@@ -14,8 +14,8 @@ use Rattle.baton.specs.declared.view.Cargo.TheVariants.{Question, Answer}
 use Rattle.baton.specs.Moments.{Moment, view, word_of, phase_at, asker_at, server_at, sole, fresh, idle, asked, working, answered, closed, parted, joined}
 use Rattle.baton.specs.Rule.{HomeAt, Kept}
 use Rattle.baton.specs.Steps.{alone, parted as part, newcomer, nobody, taken_back, Starts, Asks, Takes, Replies, Collects, Closes, Learns}
-use Rattle.baton.proofs.Standing.{IsSole, IsFresh, IsIdle, IsEnded, IsDismissed, IsMet, IsWaiting}
-use Rattle.baton.specs.Sides.{IsAsked, IsServer, MayAnswerAt, MayAnswer, InHand, Side, side_of}
+use Rattle.baton.proofs.Standing.{IsSole, IsFresh, IsIdle, IsEnded, IsDismissed, IsMet}
+use Rattle.baton.specs.Sides.{IsAsked, MayTake, IsServer, MayAnswerAt, MayAnswer, InHand, Side, side_of}
 use Rattle.baton.proofs.Moves.{Head, gate_at, kept, is_gate_at, Goes, asker_goes, server_goes, other_seat}
 
 -- the slot that was taken last, beside nothing
@@ -42,6 +42,12 @@ module _ {Q A : Type 0} where
 pub working_hand : {S Q A : Type 0} (may : Q → A → Type 0) (stage : Stage Q A) (a : A) (carried : List (ℕ × Option S)) → InHand stage carried → MayAnswerAt may stage a → carried ≡ (0, None) ∷ []
 working_hand may (Working q) a carried hand stands = hand
 working_hand may _ a carried hand stands = absurd stands
+
+-- an end that may take has nothing in hand
+pub taking_hand : {S Q A : Type 0} (stage : Stage Q A) (carried : List (ℕ × Option S)) → InHand stage carried → MayTake stage → carried ≡ []
+taking_hand Waiting carried hand stands = hand
+taking_hand Dismissed carried hand stands = hand
+taking_hand _ carried hand stands = absurd stands
 
 -- an end that has asked has nothing in hand
 pub asked_hand : {S Q A : Type 0} (stage : Stage Q A) (carried : List (ℕ × Option S)) → InHand stage carried → IsAsked stage → carried ≡ []
@@ -123,7 +129,7 @@ module _ {X Y Q A : Type 0} (asked_of : X → Q) (told_of : Y → A) (may_ask : 
   asks x slots id me = asker_goes asked_of told_of may_ask may_answer (λ _. 2) (Asks asked_of) (λ v. IsIdle v.stage × may_ask v.turns (asked_of x)) ((0, Some (Question x)) ∷ []) (asks_at x) slots id me
 
   takes_at : (m : Moment Q A) (counts : ℕ × ℕ) (home : Home (Option (Cargo X Y))) → At home m
-      → ServerGoes (λ v. IsWaiting v.stage) (λ n. either (n == 2) 3 n) (Takes asked_of may_ask) [] m counts home
+      → ServerGoes (λ v. MayTake v.stage) (λ n. either (n == 2) 3 n) (Takes asked_of may_ask) [] m counts home
   takes_at sole counts home fits = tt
   takes_at fresh counts home fits = λ stands. (view Waiting [] (0, 0), keeps, tt, Keeps fresh counts home fits, (refl, lit< tt))
   takes_at (idle ts) counts home fits = λ stands. (view Waiting ts (0, 0), keeps, tt, Keeps (idle ts) counts home fits, (refl, lit< tt))
@@ -132,23 +138,24 @@ module _ {X Y Q A : Type 0} (asked_of : X → Q) (told_of : Y → A) (may_ask : 
     takes 0 (Some (Question x)),
     ap some lies,
     Keeps (working ts q) counts none refl,
-    (x, subst (may_ask ts) (sym is) may, λ i. (view (Working (sym is i)) ts (0, 0), (0, Some (Question x)) ∷ [])),
+    (x, refl, subst (may_ask ts) (sym is) may, λ i. (view (Working (sym is i)) ts (0, 0), (0, Some (Question x)) ∷ [])),
   )
   takes_at (working ts q) counts home fits = λ stands. absurd stands
   takes_at (answered ts q a) counts home fits = λ stands. (view Waiting (ts ++ (q, a) ∷ []) (0, 0), keeps, tt, Keeps (answered ts q a) counts home fits, (refl, lit< tt))
-  takes_at (closed ts) counts home fits = λ stands. (view Dismissed ts (0, 0), keeps, tt, Keeps (Rattle.baton.specs.Moments.parted ts) counts home fits, refl)
-  takes_at (Rattle.baton.specs.Moments.parted ts) counts home fits = λ stands. absurd stands
+  takes_at (closed ts) counts home fits = λ stands. (view Dismissed ts (0, 0), keeps, tt, Keeps (parted ts) counts home fits, refl)
+  takes_at (parted ts) counts home fits = λ stands. (view Dismissed ts (0, 0), keeps, tt, Keeps (parted ts) counts home fits, refl)
   takes_at (joined ts) counts home fits = λ stands. absurd stands
 
-  waits_serves : (v : View Q A) → IsWaiting v.stage → IsServer v.stage
+  waits_serves : (v : View Q A) → MayTake v.stage → IsServer v.stage
   waits_serves v = waits_at v.stage
     where
-      waits_at : (stage : Stage Q A) → IsWaiting stage → IsServer stage
+      waits_at : (stage : Stage Q A) → MayTake stage → IsServer stage
       waits_at Waiting h = tt
+      waits_at Dismissed h = tt
       waits_at _ h = absurd h
 
-  pub takes_question : (slots id : ℕ) (me : Sitter) → me.1 ≡ [] → IsWaiting me.0.stage → Allows OK slots id me 0 (λ n. either (n == 2) 3 n) (Takes asked_of may_ask me)
-  takes_question slots id me = server_goes asked_of told_of may_ask may_answer (λ n. either (n == 2) 3 n) (Takes asked_of may_ask) (λ v. IsWaiting v.stage) [] takes_at waits_serves slots id me
+  pub takes_question : (slots id : ℕ) (me : Sitter) → me.1 ≡ [] → MayTake me.0.stage → Allows OK slots id me 0 (λ n. either (n == 2) 3 n) (Takes asked_of may_ask me)
+  takes_question slots id me = server_goes asked_of told_of may_ask may_answer (λ n. either (n == 2) 3 n) (Takes asked_of may_ask) (λ v. MayTake v.stage) [] takes_at waits_serves slots id me
 
   replies_at : (y : Y) (m : Moment Q A) (counts : ℕ × ℕ) (home : Home (Option (Cargo X Y))) → At home m
       → ServerGoes (λ v. MayAnswerAt (may_answer v.turns) v.stage (told_of y)) (λ _. 4) (Replies told_of) ((0, Some (Answer y)) ∷ []) m counts home
@@ -211,7 +218,7 @@ module _ {X Y Q A : Type 0} (asked_of : X → Q) (told_of : Y → A) (may_ask : 
       → Head (server_at m) (λ w. IsDismissed w.stage
       → OK record { words = word_of (phase_at m) ∷ []; homes = home ∷ []; views = slice_set (slice_set (asker_at counts m ∷ server_at m) 0 (taken_back (asker_at counts m) w)) 1 nobody })
   joins_at (closed ts) counts home fits stands = λ gone. absurd gone
-  joins_at (Rattle.baton.specs.Moments.parted ts) counts home fits stands = λ gone. Keeps (joined ts) counts home fits
+  joins_at (parted ts) counts home fits stands = λ gone. Keeps (joined ts) counts home fits
   joins_at _ counts home fits stands = absurd stands
 
   pub joins : (id : ℕ) (v : View Q A) (other : ℕ) (w : View Q A) → id ≡ 0 → IsEnded v.stage → IsDismissed w.stage → Joins OK id v other w (taken_back v w) nobody
@@ -244,12 +251,12 @@ module _ {X Y Q A : Type 0} (asked_of : X → Q) (told_of : Y → A) (may_ask : 
   collects_again waiting slots id me was same is_first hand stands =
       collects waiting slots id me is_first (ap (λ (m : Sitter). m.1) same ∙ asked_hand was.0.stage was.1 hand stands) (subst (λ (m : Sitter). IsAsked m.0.stage) (sym same) stands)
 
-  pub takes_again : (slots id : ℕ) (me was : Sitter) → me ≡ was → InHand was.0.stage was.1 → was.0.stage ≡ Waiting
+  pub takes_again : (slots id : ℕ) (me was : Sitter) → me ≡ was → InHand was.0.stage was.1 → MayTake was.0.stage
       → Allows OK slots id me 0 (λ n. either (n == 2) 3 n) (Takes asked_of may_ask me)
   takes_again slots id me was same hand stands =
       takes_question slots id me
-      (ap (λ (m : Sitter). m.1) same ∙ subst (λ (stage : Stage Q A). InHand stage was.1) stands hand)
-      (subst (λ (m : Sitter). IsWaiting m.0.stage) (sym same) (subst IsWaiting (sym stands) tt))
+      (ap (λ (m : Sitter). m.1) same ∙ taking_hand was.0.stage was.1 hand stands)
+      (subst (λ (m : Sitter). MayTake m.0.stage) (sym same) stands)
 
   -- The same over the ends as contracts see them, once the empty slot was exchanged for one with the question, or the answer
   pub asks_from : (x : X) (slots id : ℕ) (gate : TableId) (side : Side Q A) (was me : Sitter) → side_of gate was.0 ≡ side → side.stage ≡ Idle → may_ask side.turns (asked_of x)

@@ -1,6 +1,6 @@
 -- Where an end stands, by cases, so that it computes at each moment.
 use Rattle.baton.specs.declared.view.Stage.{Stage}
-use Rattle.baton.specs.declared.view.Stage.TheVariants.{Sole, Fresh, Idle, Ended, Met, Waiting, Dismissed}
+use Rattle.baton.specs.declared.view.Stage.TheVariants.{Sole, Fresh, Idle, Ended, Met, Dismissed}
 
 module _ {Q A : Type 0} where
   abbrev pub IsSole : Stage Q A → Type 0
@@ -26,7 +26,3 @@ module _ {Q A : Type 0} where
   abbrev pub IsMet : Stage Q A → Type 0
   IsMet (Met ts) = Unit {0}
   IsMet _ = ⊥
-
-  abbrev pub IsWaiting : Stage Q A → Type 0
-  IsWaiting Waiting = Unit {0}
-  IsWaiting _ = ⊥

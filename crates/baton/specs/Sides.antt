@@ -35,6 +35,12 @@ module _ {Q A : Type 0} where
   IsAsked (Asked q) = Unit {0}
   IsAsked _ = ⊥
 
+  -- no question was taken that isn't answered
+  abbrev pub MayTake : Stage Q A → Type 0
+  MayTake Waiting = Unit {0}
+  MayTake Dismissed = Unit {0}
+  MayTake _ = ⊥
+
   -- a question was taken, for which this answer is lawful
   abbrev pub MayAnswerAt : (Q → A → Type 0) → Stage Q A → A → Type 0
   MayAnswerAt may (Working q) a = may q a

@@ -59,7 +59,7 @@ module _ {X Y Q A : Type 0} where
 
   abbrev pub Takes : (X → Q) → (List (Q × A) → Q → Type 0) → Holder X Y Q A → ℕ → Holder X Y Q A → Type 0
   Takes asked_of may_ask m found w = MatchBool (found == word_of AskedPhase)
-      ((x : X) × may_ask m.0.turns (asked_of x) × (w ≡ (moved (Working (asked_of x)) m.0, (0, Some (Question x)) ∷ [])))
+      ((x : X) × (m.0.stage ≡ Waiting) × may_ask m.0.turns (asked_of x) × (w ≡ (moved (Working (asked_of x)) m.0, (0, Some (Question x)) ∷ [])))
       (MatchBool (found == word_of ClosedPhase) (w ≡ (moved Dismissed m.0, m.1)) ((w ≡ m) × (found < 6)))
 
   abbrev pub Replies : (Y → A) → Holder X Y Q A → ℕ → Holder X Y Q A → Type 0

@@ -70,7 +70,7 @@ impl<P: Turns> Asker<P> {
         shared.wake_one(0);
     }
 
-    /// The answer, if it is there. `None` only where the phase that was loaded wasn't `Answered`, which
+    /// Takes the answer, if it is there. `None` only where the phase that was loaded wasn't `Answered`, which
     /// is counted as a miss.
     pub fn try_collect(&mut self) -> Option<P::Answer>
         requires { IsAsked self.old.stage }
@@ -91,7 +91,7 @@ impl<P: Turns> Asker<P> {
         }
     }
 
-    /// Waits for the answer.
+    /// Waits for the answer, and takes it. Returns only if the server answers.
     pub fn collect<R: Wait>(&mut self, rt: &R) -> P::Answer
         requires { IsAsked self.old.stage }
         ensures { Gains P.may_answer (self.old.waits + 1) self.old (P.told result) self.new }
@@ -99,7 +99,7 @@ impl<P: Turns> Asker<P> {
         await_answer(rt, &self.table.shared, &mut self.seat)
     }
 
-    /// Ends the questions, and wakes the server if it waits.
+    /// Closes the gate, so that no question comes any more, and wakes the server if it waits.
     pub fn close(self) -> Closer<P>
         requires { self.stage ≡ Stage.Idle }
         ensures { result ≡ record self { stage = Stage.Ended } }

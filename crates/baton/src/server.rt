@@ -1,7 +1,7 @@
 //! The end of a gate that answers.
-ghost use Rattle.std.specs.Prelude.{◌≡◌, [], IfSome, IfNone};
+ghost use Rattle.std.specs.Prelude.{◌≡◌, [], IfSome, IfNone, IsNone};
 ghost use Rattle.std.specs.Arc.{arc_value};
-ghost use Rattle.baton.specs.Sides.{Side, side_of, Sits, IsServer, MayAnswer, Serves};
+ghost use Rattle.baton.specs.Sides.{Side, side_of, Sits, MayTake, MayAnswer, Serves};
 
 use crate::phase::Phase;
 use crate::steps::{Reply, Seat, Table};
@@ -43,11 +43,13 @@ impl<P: Turns> Server<P> {
         seat
     }
 
-    /// Waits for the next question. `None` only where the phase that was loaded was `Closed`.
+    /// Waits for the next question, and takes it. `None` only where the phase that was loaded was `Closed`;
+    /// a further call gives `None` again.
     pub fn next<R: Wait>(&mut self, rt: &R) -> Option<P::Question>
-        requires { self.old.stage ≡ Stage.Waiting }
+        requires { MayTake self.old.stage }
         ensures some { IfSome result (λ x. P.may_ask self.old.turns (P.asked x) × (self.new ≡ record self.old { stage = Stage.Working (P.asked x) })) }
         ensures none { IfNone result (self.new ≡ record self.old { stage = Stage.Dismissed }) }
+        ensures again { self.old.stage ≡ Stage.Dismissed → IsNone result }
     {
         await_question(rt, &self.table.shared, &mut self.seat)
     }

@@ -1,6 +1,6 @@
 //! The calls that wait, over the table and the seat of an end.
-ghost use Rattle.std.specs.Prelude.{◌≡◌, ◌+◌, ◌++◌, ◌∷◌, [], None, IfSome, IfNone};
-ghost use Rattle.baton.specs.Sides.{IsAsked, side_of, Sits, Gains};
+ghost use Rattle.std.specs.Prelude.{◌≡◌, ◌+◌, ◌++◌, ◌∷◌, [], None, IfSome, IfNone, IsNone};
+ghost use Rattle.baton.specs.Sides.{IsAsked, MayTake, side_of, Sits, Gains};
 
 use crate::phase::Phase;
 use crate::steps::{Collect, Seat, Shared, Take};
@@ -57,17 +57,18 @@ pub fn await_answer<P: Turns, R: Wait>(rt: &R, shared: &Shared<P>, seat: &mut Se
     unreachable!()
 }
 
-/// Waits until the gate has a question, and takes it; or until it is closed.
+/// Waits until the gate has a question, and takes it; or until the gate is closed.
 pub fn await_question<P: Turns, R: Wait>(
     rt: &R,
     shared: &Shared<P>,
     seat: &mut Seat<P>,
 ) -> Option<P::Question>
     requires sits { Sits shared.now.table_id seat.old.table_id seat.old.me }
-    requires waits { seat.old.me.0.stage ≡ Stage.Waiting }
+    requires waits { MayTake seat.old.me.0.stage }
     ensures sits { Sits shared.now.table_id seat.new.table_id seat.new.me }
     ensures some { let old = side_of seat.old.table_id seat.old.me.0 in IfSome result (λ x. P.may_ask old.turns (P.asked x) × (side_of seat.new.table_id seat.new.me.0 ≡ record old { stage = Stage.Working (P.asked x) })) }
     ensures none { let old = side_of seat.old.table_id seat.old.me.0 in IfNone result (side_of seat.new.table_id seat.new.me.0 ≡ record old { stage = Stage.Dismissed }) }
+    ensures again { seat.old.me.0.stage ≡ Stage.Dismissed → IsNone result }
 {
     for _ in rt.forever() {
         let found = shared.compare_exchange::<Take<P>>(
