@@ -1,0 +1,12 @@
+pub mod Faults
+pub mod Features
+pub mod Known
+pub mod Scope
+pub mod Parts
+pub mod Rules
+pub mod Placed
+pub mod Readings
+pub mod Compiled
+pub mod Mentions
+pub mod Sizes
+pub mod Types

@@ -1,0 +1,20 @@
+//! What QML documents declare: the types that they mention, the faults of their declarations, and the
+//! component types of which objects are made.
+#![tactic(auto)]
+
+pub mod compiling;
+pub mod component;
+mod features;
+pub mod known;
+mod known_type;
+pub mod mention;
+pub mod mentioning;
+mod type_ref;
+
+pub use compiling::compile;
+pub use component::{
+    Base, ComponentType, HandlerDecl, InitDecl, MethodDecl, ObjectDecl, Role, SignalDecl, SlotDecl,
+};
+pub use known::Known;
+pub use mention::Mention;
+pub use mentioning::mentions;
