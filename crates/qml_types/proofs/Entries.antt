@@ -10,13 +10,14 @@ use Rattle.qml_types.specs.Features.{Features, meaning, with_feature}
 pub insert_absent : {K X : Type 0} (eq : K → K → Bool) (es : List (K × X)) (k : K) (v : X) → is_some (lookup (eq k) es) ≡ false →
     insert_entry eq es k v ≡ es ++ (k, v) ∷ []
 insert_absent eq [] k v absent = refl
-insert_absent {K} {X} eq (e ∷ es) k v absent = by (eq k e.0) refl
+insert_absent {K} {X} eq (e ∷ es) k v absent = by (eq k e.0) refl (λ none. insert_absent eq es k v none)
   where
-    by : (b : Bool) → eq k e.0 ≡ b → insert_entry eq (e ∷ es) k v ≡ (e ∷ es) ++ (k, v) ∷ []
-    by true is = let no : true ≡ false = rw is at absent in absurd cc
-    by false is =
+    by : (b : Bool) → eq k e.0 ≡ b → (is_some (lookup (eq k) es) ≡ false → insert_entry eq es k v ≡ es ++ (k, v) ∷ []) →
+        insert_entry eq (e ∷ es) k v ≡ (e ∷ es) ++ (k, v) ∷ []
+    by true is rest = let no : true ≡ false = rw is at absent in absurd cc
+    by false is rest =
         let none : is_some (lookup (eq k) es) ≡ false = rw is at absent in
-        rw is (ap (λ rest. e ∷ rest) (insert_absent eq es k v none))
+        rw is (ap (λ more. e ∷ more) (rest none))
 
 pub new_feature : (features : Features) (name : List ℕ) (feature : Feature) → is_some (meaning name features) ≡ false →
     insert_entry (pointwise nat_eq) features name feature ≡ with_feature features (name, feature)

@@ -22,6 +22,7 @@ use Rattle.qml_types.specs.declared.component.Base.TheVariants as base
 use Rattle.qml_types.specs.declared.features.Feature.{Feature}
 use Rattle.qml_types.specs.declared.features.Feature.TheVariants.{Slot, Signal, Method}
 use Rattle.qml_types.specs.declared.features.SlotFacts.{SlotFacts}
+use Rattle.qml_types.specs.Faults.{told}
 use Rattle.qml_types.specs.Features.{Features, with_feature, view_of}
 use Rattle.qml_types.specs.Known.{KnownTypes, type_named, kind_named}
 use Rattle.qml_types.specs.Parts.{Claim, Reading, Given, expression, object, Part, identity, property, signal, initialiser, handler, method, child, literal_of}
@@ -83,6 +84,10 @@ abbrev pub repeated : List (List ℕ) → List Claim → List DocFault
 repeated seen [] = []
 repeated seen (claim ∷ claims) =
     (if among seen claim.name then claim.again ∷ [] else []) ++ repeated (with_name seen claim.name) claims
+
+-- the names that were given and the first fault, with one name more
+unfoldable pub note : List (List ℕ) × Option DocFault → Claim → List (List ℕ) × Option DocFault
+note state claim = (with_name state.0 claim.name, told state.1 (if among state.0 claim.name then claim.again ∷ [] else []))
 
 -- ---- the members' parts
 -- a path as it is written
@@ -247,10 +252,14 @@ faults_within scope (initialiser path given value_at at) = given_faults scope.kn
 faults_within scope (child reading) = child_faults scope reading
 faults_within scope _ = []
 
--- what is unlawful in one member
+-- what is unlawful in a member itself
+unfoldable pub own_faults : Scope → Part → List DocFault
+own_faults scope part = flat_map (λ rule. rule scope part)
+    (unknown_kinds ∷ unknown_slots ∷ unknown_handlers ∷ bad_ids ∷ taken_names ∷ repeated_params ∷ wrong_literals ∷ read_only_slots ∷ [])
+
+-- what is unlawful in a member and in an object that stands in it
 unfoldable pub member_faults : Scope → Part → List DocFault
-member_faults scope part = flat_map (λ rule. rule scope part)
-    (unknown_kinds ∷ unknown_slots ∷ unknown_handlers ∷ bad_ids ∷ taken_names ∷ repeated_params ∷ wrong_literals ∷ read_only_slots ∷ faults_within ∷ [])
+member_faults scope part = own_faults scope part ++ faults_within scope part
 
 -- ---- rules on all members of an object
 -- a type of that name that there is not
@@ -280,10 +289,14 @@ further_children scope parts =
     if is_plain_component scope.type then rest_of (flat_map further_child parts) else
     if is_component scope.type then flat_map further_child parts else []
 
+-- what is unlawful by these rules
+unfoldable pub faults_together : Scope → Span → List Part → List DocFault
+faults_together scope at parts = unknown_type scope at ++ (missing_child scope at parts ++ (further_children scope parts
+    ++ (repeated_names parts ++ (repeated_paths parts ++ second_ids parts))))
+
 -- what is unlawful in an object and in what stands in it, the ids of the component left aside
 unfoldable pub object_faults : Scope → Span → List Part → List DocFault
-object_faults scope at parts = unknown_type scope at ++ (missing_child scope at parts ++ (further_children scope parts
-    ++ (repeated_names parts ++ (repeated_paths parts ++ (second_ids parts ++ flat_map (member_faults scope) parts)))))
+object_faults scope at parts = faults_together scope at parts ++ flat_map (member_faults scope) parts
 
 -- ---- ids
 -- the ids that a member gives in the component round it

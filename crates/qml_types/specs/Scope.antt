@@ -103,7 +103,7 @@ abbrev pub with_lower : List ℕ → List ℕ
 with_lower [] = []
 with_lower (c ∷ rest) = (c + 32) ∷ rest
 
--- the signals that `on` and this name handle: `foo` and `Foo` for `Foo`
+-- the signals that `on` and this name handle: `foo` and `Foo` for `Foo`, and none for a name without an upper-case letter
 abbrev pub signals_behind : List ℕ → List (List ℕ)
 signals_behind name = if begins_upper name then with_lower name ∷ name ∷ [] else []
 
@@ -111,9 +111,13 @@ signals_behind name = if begins_upper name then with_lower name ∷ name ∷ [] 
 unfoldable pub signals_for : List ℕ → List (List ℕ)
 signals_for name = if bytes_eq (take 2 name) (codes "on") then signals_behind (drop 2 name) else []
 
+-- something of that name is handled: a signal, or a slot's changes
+unfoldable pub is_told_of : TypeView → Features → List ℕ → Bool
+is_told_of type own signal = has_signal type own signal || has_change type own signal
+
 -- a handler of one name handles a signal, or a slot's changes
 unfoldable pub handles : TypeView → Features → List ℕ → Bool
-handles type own name = list_any (λ signal. has_signal type own signal || has_change type own signal) (signals_for name)
+handles type own name = list_any (is_told_of type own) (signals_for name)
 
 -- a handler of two names is one of a component's
 unfoldable pub is_attached : List ℕ → List ℕ → Bool

@@ -1,5 +1,5 @@
 ghost use Rattle.std.specs.Prelude.{◌≡◌, [], ◌∷◌, map, fold, IfOk, OnOk};
-ghost use Rattle.qml_types.specs.Features.{meaning, with_feature, slot_feature, signal_feature, method_feature, type_of};
+ghost use Rattle.qml_types.specs.Features.{meaning, with_feature, slot_feature, signal_feature, method_feature, type_of, view_of};
 ghost use Rattle.qml_types.specs.declared.features.Feature.{Feature};
 
 use crate::component::{Base, ComponentType, MethodDecl, SignalDecl, SlotDecl};
@@ -116,6 +116,7 @@ pub fn add_methods(
 
 /// The built-in type on which a component's root stands. Adds what documents declare for the root to
 /// `features`, which has nothing yet.
+#[cycle(gather)]
 pub fn gather(
     alloc: Global,
     component: &ComponentType,
@@ -126,15 +127,28 @@ pub fn gather(
 {
     match component.objects.as_slice() {
         [root, ..] => {
-            let built_in = match &root.base {
-                Base::BuiltIn(built_in) => *built_in,
-                Base::Document(document) => gather(alloc, document.get(), features)?,
-            };
+            let built_in = gather_base(alloc, &root.base, features)?;
             add_slots(alloc, root.slots.as_slice(), features)?;
             add_signals(alloc, root.signals.as_slice(), features)?;
             add_methods(alloc, root.methods.as_slice(), features)?;
             Ok(built_in)
         }
         [] => Ok(BuiltIn::QtObject),
+    }
+}
+
+// The same for an object that has no members.
+#[cycle(gather)]
+fn gather_base(
+    alloc: Global,
+    base: &Base,
+    features: &mut FeatureMap,
+) -> Result<BuiltIn, AllocError>
+    requires { features.old ≡ [] }
+    ensures { IfOk result (λ built_in. view_of base.now ≡ record { built_in = built_in; features = features.new }) }
+{
+    match base {
+        Base::BuiltIn(built_in) => Ok(*built_in),
+        Base::Document(document) => gather(alloc, document.get(), features),
     }
 }

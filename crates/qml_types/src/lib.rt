@@ -5,10 +5,13 @@
 pub mod compiling;
 pub mod component;
 mod features;
+mod first_fault;
+mod handling;
 pub mod known;
 mod known_type;
 pub mod mention;
 pub mod mentioning;
+mod object_scope;
 mod type_ref;
 
 pub use compiling::compile;
