@@ -134,10 +134,11 @@ abbrev pub further_child : Part → List DocFault
 further_child (child reading) = DuplicateName reading.at ∷ []
 further_child _ = []
 
--- all but the first
-abbrev pub rest_of : {X : Type 0} → List X → List X
-rest_of [] = []
-rest_of (x ∷ xs) = xs
+-- all of them, or all but the first where one is lawful
+abbrev pub beyond : {X : Type 0} → Bool → List X → List X
+beyond one [] = []
+beyond true (x ∷ xs) = xs
+beyond false (x ∷ xs) = x ∷ xs
 
 -- there is none
 abbrev pub is_none : {X : Type 0} → List X → Bool
@@ -245,6 +246,12 @@ read_only_slots scope (initialiser path given value_at at) = elim (slot_of scope
   ]
 read_only_slots scope _ = []
 
+-- what is unlawful in an initialiser by the three rules above on paths and values
+unfoldable pub initialiser_faults : Scope → Path → Given → Span → Span → List DocFault
+initialiser_faults scope path given value_at at =
+    unknown_slots scope (initialiser path given value_at at)
+    ++ (wrong_literals scope (initialiser path given value_at at) ++ read_only_slots scope (initialiser path given value_at at))
+
 -- what is unlawful in an object that stands in the member
 abbrev pub faults_within : Scope → Part → List DocFault
 faults_within scope (property fixed k name (Some given) kind_at value_at at) = given_faults scope.known (kind_named scope.known k) given
@@ -252,7 +259,7 @@ faults_within scope (initialiser path given value_at at) = given_faults scope.kn
 faults_within scope (child reading) = child_faults scope reading
 faults_within scope _ = []
 
--- what is unlawful in a member itself
+-- what is unlawful in a member itself, by these rules
 unfoldable pub own_faults : Scope → Part → List DocFault
 own_faults scope part = flat_map (λ rule. rule scope part)
     (unknown_kinds ∷ unknown_slots ∷ unknown_handlers ∷ bad_ids ∷ taken_names ∷ repeated_params ∷ wrong_literals ∷ read_only_slots ∷ [])
@@ -275,8 +282,8 @@ unfoldable pub repeated_paths : List Part → List DocFault
 repeated_paths parts = repeated [] (flat_map path_claim parts)
 
 -- a second id of one object
-unfoldable pub second_ids : List Part → List DocFault
-second_ids parts = rest_of (flat_map second_id parts)
+abbrev pub second_ids : List Part → List DocFault
+second_ids parts = beyond true (flat_map second_id parts)
 
 -- a Component without a child, at its type's name
 unfoldable pub missing_child : Scope → Span → List Part → List DocFault
@@ -286,13 +293,16 @@ missing_child scope at parts =
 -- A child of a Component after its first; a document's Component has its one child already.
 unfoldable pub further_children : Scope → List Part → List DocFault
 further_children scope parts =
-    if is_plain_component scope.type then rest_of (flat_map further_child parts) else
-    if is_component scope.type then flat_map further_child parts else []
+    if is_component scope.type then beyond (is_plain_component scope.type) (flat_map further_child parts) else []
+
+-- a Component has another number of children than one
+unfoldable pub child_count_faults : Scope → Span → List Part → List DocFault
+child_count_faults scope at parts = missing_child scope at parts ++ further_children scope parts
 
 -- what is unlawful by these rules
 unfoldable pub faults_together : Scope → Span → List Part → List DocFault
-faults_together scope at parts = unknown_type scope at ++ (missing_child scope at parts ++ (further_children scope parts
-    ++ (repeated_names parts ++ (repeated_paths parts ++ second_ids parts))))
+faults_together scope at parts = unknown_type scope at ++ (child_count_faults scope at parts
+    ++ (repeated_names parts ++ (repeated_paths parts ++ second_ids parts)))
 
 -- what is unlawful in an object and in what stands in it, the ids of the component left aside
 unfoldable pub object_faults : Scope → Span → List Part → List DocFault

@@ -1,6 +1,7 @@
 ghost use Rattle.qml_types.specs.Compiled.{compiled, Gives};
 
 use crate::component::ComponentType;
+use crate::document_rules::component_faults;
 use crate::known::Known;
 use qml_ast::{DocFault, Document, Name};
 use std::alloc::Global;
@@ -24,6 +25,7 @@ use std::alloc::Global;
 /// - `WrongLiteral`: the property does not take a literal of this kind, or no object.
 /// - `ReadOnly`: documents do not initialise the property.
 /// - `NoMemory`: memory ran out.
+#[tactic(auto, unfolding(crate::specs::Compiled::compiled))]
 pub fn compile(
     alloc: Global,
     file: &Name,
@@ -32,5 +34,10 @@ pub fn compile(
 ) -> Result<ComponentType, DocFault>
     ensures { Gives (compiled file.now document.now known.now) result }
 {
-    Err(DocFault::NoMemory)
+    let mut first = None;
+    component_faults(alloc, known, &document.root, &mut first)?;
+    match first {
+        Some(fault) => Err(fault),
+        None => Err(DocFault::NoMemory),
+    }
 }

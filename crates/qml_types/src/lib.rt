@@ -4,14 +4,20 @@
 
 pub mod compiling;
 pub mod component;
+mod document_rules;
 mod features;
 mod first_fault;
 mod handling;
+mod kinds;
 pub mod known;
 mod known_type;
+mod member_rules;
 pub mod mention;
 pub mod mentioning;
+mod names;
+mod object_rules;
 mod object_scope;
+mod scoping;
 mod type_ref;
 
 pub use compiling::compile;

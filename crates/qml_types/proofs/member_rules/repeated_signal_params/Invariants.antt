@@ -1,0 +1,8 @@
+use Rattle.std.proofs.Common.{◌≡◌, map, drop, fold, []}
+use Rattle.qml_types.specs.Rules.{note, signal_claim}
+use Rattle.qml_types.proofs.member_rules.repeated_signal_params.Given as goal
+
+-- with the parameters that are left, the names will be given and the faults told
+abbrev pub invariant-loop-param : goal.invariant-loop-param
+invariant-loop-param l =
+    fold note (l.seen, l.first) (map signal_claim (drop l.param-index l.params)) ≡ fold note ([], l.fn.first) (map signal_claim l.params)
