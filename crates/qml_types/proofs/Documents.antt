@@ -16,11 +16,11 @@ use Rattle.qml_types.specs.Scope.{Scope}
 use Rattle.qml_types.proofs.Turns.{told_repeated, reading_unrolled}
 
 -- the state after the ids of a component
-pub component_told : (known : KnownTypes) (reading : Reading) (first f2 f3 : Option DocFault) (seen : List (List ℕ)) →
-    f2 ≡ told first (reading.faults known) → (seen, f3) ≡ fold note ([], f2) (reading.ids known) → f3 ≡ told first (component_faults known reading)
+pub component_told : (known : KnownTypes) (reading : Reading) (first f2 f3 : Option DocFault) (start seen : List (List ℕ)) → start ≡ [] →
+    f2 ≡ told first (reading.faults known) → (seen, f3) ≡ fold note (start, f2) (reading.ids known) → f3 ≡ told first (component_faults known reading)
 unfolding component_faults
-component_told known reading first f2 f3 seen own ids =
-    ap (λ s. s.1) ids ∙ sym (told_repeated (reading.ids known) f2 [])
+component_told known reading first f2 f3 start seen fresh own ids =
+    ap (λ s. s.1) ids ∙ ap (λ s. (fold note (s, f2) (reading.ids known)).1) fresh ∙ sym (told_repeated (reading.ids known) f2 [])
     ∙ ap (λ f. told f (repeated [] (reading.ids known))) own ∙ sym (fold-append earlier first (reading.faults known) (repeated [] (reading.ids known)))
 
 -- the rules on a member itself, and those on what stands in it

@@ -4,3 +4,4 @@ pub mod Slots
 pub mod Texts
 pub mod Turns
 pub mod Documents
+pub mod Objects

@@ -1,5 +1,5 @@
 -- Loops over the members of an object, which go on with what the members that are left give.
-use Rattle.std.proofs.Common.{◌≡◌, ◌∙◌, ℕ, ◌+◌, ◌<◌, ◌≤◌, Bool, true, false, not, if◌then◌else◌, length, get_or, drop, map, fold, Option, None, Some, List, [], ◌∷◌, ◌++◌, refl, sym, ap, subst, add-one, rules, arith}
+use Rattle.std.proofs.Common.{◌≡◌, ◌∙◌, ℕ, ◌+◌, ◌<◌, ◌≤◌, Bool, true, false, not, if◌then◌else◌, length, get_or, drop, map, fold, Option, None, Some, List, [], ◌∷◌, ◌++◌, append_assoc, refl, sym, ap, subst, add-one, rules, arith}
 use Rattle.std.proofs.Math.Seq.{drop-cons}
 use Rattle.std.proofs.lemmas.List.Sums.{fold-append}
 use Rattle.std.specs.List.{flat_map}
@@ -59,3 +59,12 @@ told_repeated (claim ∷ claims) found seen =
 -- ---- one level of a document
 pub reading_unrolled : (decl : Decl) → reading_of decl ≡ decl_step (record { name = (out-Decl decl).name; members = map part_of (out-Decl decl).members; span = (out-Decl decl).span })
 reading_unrolled decl = search (rules, the_lemmas)
+
+-- a turn of a loop that gathers what each member gives
+pub gather_turn : {A : Type 0} (f : Part → List A) (members : List Member) (i : ℕ) (member : Member) (before after goal : List A) →
+    member ≡ get_or members i member → i < length members → after ≡ before ++ f (part_of member) →
+    before ++ flat_map f (map part_of (drop i members)) ≡ goal → after ++ flat_map f (map part_of (drop (i + 1) members)) ≡ goal
+gather_turn f members i member before after goal is inside step so_far =
+    let rest = flat_map f (map part_of (drop (i + 1) members)) in
+    ap (λ s. s ++ rest) step ∙ append_assoc before (f (part_of member)) rest
+    ∙ ap (λ ps. before ++ flat_map f ps) (sym (left_parts members i member is inside)) ∙ so_far

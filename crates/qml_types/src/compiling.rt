@@ -3,6 +3,7 @@ ghost use Rattle.qml_types.specs.Compiled.{compiled, Gives};
 use crate::component::ComponentType;
 use crate::document_rules::component_faults;
 use crate::known::Known;
+use crate::placing::component_of;
 use qml_ast::{DocFault, Document, Name};
 use std::alloc::Global;
 
@@ -38,6 +39,6 @@ pub fn compile(
     component_faults(alloc, known, &document.root, &mut first)?;
     match first {
         Some(fault) => Err(fault),
-        None => Err(DocFault::NoMemory),
+        None => Ok(component_of(alloc, known, file, &document.root)?),
     }
 }

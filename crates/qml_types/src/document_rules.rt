@@ -168,6 +168,7 @@ fn all_member_ids(
 
 // Claims the ids that a member gives.
 #[cycle(ids)]
+#[tactic(auto, unfolding(crate::specs::Rules::member_ids))]
 fn member_ids(
     alloc: Global,
     scope: &ObjectScope<'_>,

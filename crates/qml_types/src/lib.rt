@@ -4,6 +4,7 @@
 
 pub mod compiling;
 pub mod component;
+mod declaring;
 mod document_rules;
 mod features;
 mod first_fault;
@@ -17,6 +18,7 @@ pub mod mentioning;
 mod names;
 mod object_rules;
 mod object_scope;
+mod placing;
 mod scoping;
 mod type_ref;
 

@@ -187,6 +187,7 @@ fn initialiser_faults(
 }
 
 /// Tells of what is unlawful in a member, an object in it left aside.
+#[tactic(auto, using(std::proofs::lemmas::Grind::common_steps), unfolding(crate::specs::Rules::own_faults, crate::specs::Rules::initialiser_faults))]
 pub fn own_faults(
     alloc: Global,
     scope: &ObjectScope<'_>,

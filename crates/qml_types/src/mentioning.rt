@@ -105,6 +105,7 @@ fn mention_members(
 }
 
 #[cycle(mentions)]
+#[tactic(auto, using(std::proofs::lemmas::Grind::common_steps), unfolding(crate::specs::Readings::types_in))]
 fn mention_member(
     alloc: Global,
     member: &Member,

@@ -8,15 +8,15 @@ use Rattle.qml_types.proofs.Documents.{component_told, member_told, object_told}
 use Rattle.qml_types.proofs.Turns.{turn}
 use Rattle.qml_types.proofs.document_rules.+faults.Goals as goal
 
-pub component_faults-returns-in_ok-object_ids : goal.component_faults-returns-in_ok-object_ids
-component_faults-returns-in_ok-object_ids t c =
-    component_told c.args.known.now (reading_of c.args.decl.now) c.args.first.now c.object_faults.new.first c.object_ids.new.first c.object_ids.new.seen
-    c.in_ok-object_faults.ensures c.in_ok-object_ids.ensures
+pub component_faults-returns : goal.component_faults-returns
+component_faults-returns t c =
+    component_told c.args.known.now (reading_of c.args.decl.now) c.args.first.now c.object_faults.new.first c.object_ids.new.first c.new-seen.result c.object_ids.new.seen
+    c.new-seen.ensures c.in_ok-object_faults.ensures c.in_ok-object_ids.ensures
 
-pub object_faults-returns-in_ok-all_member_faults : goal.object_faults-returns-in_ok-all_member_faults
-object_faults-returns-in_ok-all_member_faults t c =
-    object_told c.args.decl.now c.args.known.now (scope_seen c.in_ok-scope.scope) c.as_slice.result.now c.args.first.now c.faults_together.new.first
-    c.all_member_faults.new.first c.as_slice.ensures c.in_ok-scope.ensures c.in_ok-faults_together.ensures c.in_ok-all_member_faults.ensures
+pub object_faults-returns : goal.object_faults-returns
+object_faults-returns t c =
+    object_told c.args.decl.now c.args.known.now (scope_seen c.in_ok-scope.scope) c.as_slice-members.result.now c.args.first.now c.faults_together.new.first
+    c.all_member_faults.new.first c.as_slice-members.ensures c.in_ok-scope.ensures c.in_ok-faults_together.ensures c.in_ok-all_member_faults.ensures
 
 pub all_member_faults-loop-member-preserved : goal.all_member_faults-loop-member-preserved
 all_member_faults-loop-member-preserved t c =

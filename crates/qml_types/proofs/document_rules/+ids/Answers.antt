@@ -7,10 +7,10 @@ use Rattle.qml_types.proofs.Documents.{ids_told}
 use Rattle.qml_types.proofs.Turns.{turn}
 use Rattle.qml_types.proofs.document_rules.+ids.Goals as goal
 
-pub object_ids-returns-in_ok-all_member_ids : goal.object_ids-returns-in_ok-all_member_ids
-object_ids-returns-in_ok-all_member_ids t c =
-    ids_told c.args.decl.now c.args.known.now (scope_seen c.in_ok-scope.scope) c.as_slice.result.now (c.args.seen.now, c.args.first.now)
-    (c.all_member_ids.new.seen, c.all_member_ids.new.first) c.as_slice.ensures c.in_ok-scope.ensures c.in_ok-all_member_ids.ensures
+pub object_ids-returns : goal.object_ids-returns
+object_ids-returns t c =
+    ids_told c.args.decl.now c.args.known.now (scope_seen c.in_ok-scope.scope) c.as_slice-members.result.now (c.args.seen.now, c.args.first.now)
+    (c.all_member_ids.new.seen, c.all_member_ids.new.first) c.as_slice-members.ensures c.in_ok-scope.ensures c.in_ok-all_member_ids.ensures
 
 pub all_member_ids-loop-member-preserved : goal.all_member_ids-loop-member-preserved
 all_member_ids-loop-member-preserved t c =

@@ -6,8 +6,8 @@ use Rattle.qml_types.proofs.Documents.{types_told}
 use Rattle.qml_types.proofs.Turns.{turn}
 use Rattle.qml_types.proofs.mentioning.+mentions.Goals as goal
 
-pub mention_object-returns-in_ok-mention_members-clause-added : goal.mention_object-returns-in_ok-mention_members-clause-added
-mention_object-returns-in_ok-mention_members-clause-added t c =
+pub mention_object-returns-clause-added : goal.mention_object-returns-clause-added
+mention_object-returns-clause-added t c =
     types_told c.args.decl.now c.as_slice.result.now c.args.mentions.now c.mention.new.mentions c.mention_members.new.mentions c.as_slice.ensures
     c.in_ok-mention.ensures.added c.in_ok-mention_members.ensures.added
 

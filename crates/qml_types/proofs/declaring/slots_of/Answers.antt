@@ -1,0 +1,11 @@
+use Rattle.std.proofs.Common.{map}
+use Rattle.std.specs.List.{flat_map}
+use Rattle.qml_types.specs.Placed.{slots_in}
+use Rattle.qml_types.specs.Readings.{part_of}
+use Rattle.qml_types.proofs.Turns.{gather_turn}
+use Rattle.qml_types.proofs.declaring.slots_of.Goals as goal
+
+pub loop-member-preserved : goal.loop-member-preserved
+loop-member-preserved c =
+    gather_turn (slots_in c.args.known.now) c.args.members.now c.loop-member.member-index c.member-item.result c.loop-member.slots c.add_slot.new.slots
+    (flat_map (slots_in c.args.known.now) (map part_of c.args.members.now)) c.member-item.is c.loop-member-test.true c.in_ok-add_slot.ensures c.loop-member.invariant
