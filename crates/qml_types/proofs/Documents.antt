@@ -46,9 +46,9 @@ object_told decl known scope members first f2 f3 same seen together each =
     let T = faults_together scope (out-Decl decl).span parts in
     each ∙ ap (λ f. told f X) together ∙ sym (fold-append earlier first T X)
     ∙ ap (told first)
-        (object_joined scope decl parts ∙ ap (λ s. object_faults s (out-Decl decl).span parts) seen
-        ∙ ap (λ ms. object_faults (scope_of known (out-Decl decl).name (map part_of ms)) (out-Decl decl).span (map part_of ms)) same
-        ∙ sym (ap (λ r. r.faults known) (reading_unrolled decl)))
+    (object_joined scope decl parts ∙ ap (λ s. object_faults s (out-Decl decl).span parts) seen
+    ∙ ap (λ ms. object_faults (scope_of known (out-Decl decl).name (map part_of ms)) (out-Decl decl).span (map part_of ms)) same
+    ∙ sym (ap (λ r. r.faults known) (reading_unrolled decl)))
 
 ids_joined : (scope : Scope) (parts : List Part) → flat_map (member_ids scope) parts ≡ object_ids scope parts
 unfolding object_ids
@@ -60,9 +60,9 @@ pub ids_told : (decl : Decl) (known : KnownTypes) (scope : Scope) (members : Lis
     after ≡ fold note before (flat_map (member_ids scope) (map part_of members)) → after ≡ fold note before ((reading_of decl).ids known)
 ids_told decl known scope members before after same seen each =
     each ∙ ap (fold note before)
-        (ids_joined scope (map part_of members) ∙ ap (λ s. object_ids s (map part_of members)) seen
-        ∙ ap (λ ms. object_ids (scope_of known (out-Decl decl).name (map part_of ms)) (map part_of ms)) same
-        ∙ sym (ap (λ r. r.ids known) (reading_unrolled decl)))
+    (ids_joined scope (map part_of members) ∙ ap (λ s. object_ids s (map part_of members)) seen
+    ∙ ap (λ ms. object_ids (scope_of known (out-Decl decl).name (map part_of ms)) (map part_of ms)) same
+    ∙ sym (ap (λ r. r.ids known) (reading_unrolled decl)))
 
 -- the types that an object's declaration names
 pub types_told : (decl : Decl) (members : List Member) (before m2 after : List Mention) → members ≡ (out-Decl decl).members →

@@ -32,7 +32,7 @@ unfolding component_of
 component_placed known file copied reading start objects fresh same all =
     ap (λ f. roll-ComponentType (record { file = f; objects = objects })) same
     ∙ ap (λ os. roll-ComponentType (record { file = file; objects = os }))
-        (all ∙ ap (reading.placed known (record { file = file; owner = None; role = role.Root })) fresh)
+    (all ∙ ap (reading.placed known (record { file = file; owner = None; role = role.Root })) fresh)
 
 -- an object with what its members declare
 pub object_made : (scope : Scope) (stand : Stand) (at : Span) (parts : List Part) (b : Base) (i : Option (List ℕ)) (s : List SlotDecl) (g : List SignalDecl)

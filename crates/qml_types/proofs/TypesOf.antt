@@ -55,8 +55,8 @@ members_added root view b f0 f1 f2 f3 is a1 a2 a3 =
     let C = map method_feature (out-ObjectDecl root).methods in
     ap (λ v. with_members v root) is
     ∙ ap (λ fs. record { built_in = b; features = fs })
-        (fold-append with_feature f0 A (B ++ C) ∙ ap (λ f. fold with_feature f (B ++ C)) (sym a1)
-        ∙ fold-append with_feature f1 B C ∙ ap (λ f. fold with_feature f C) (sym a2) ∙ sym a3)
+    (fold-append with_feature f0 A (B ++ C) ∙ ap (λ f. fold with_feature f (B ++ C)) (sym a1)
+    ∙ fold-append with_feature f1 B C ∙ ap (λ f. fold with_feature f C) (sym a2) ∙ sym a3)
 
 -- a component without objects
 pub type_of_none : (component : ComponentType) (objects : List ObjectDecl) → objects ≡ (out-ComponentType component).objects → length objects < 1 →

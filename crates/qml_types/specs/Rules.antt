@@ -241,9 +241,9 @@ wrong_literals scope _ = []
 -- an initialiser of a slot that documents don't write
 abbrev pub read_only_slots : Scope → Part → List DocFault
 read_only_slots scope (initialiser path given value_at at) = elim (slot_of scope path) [
-    None ↦ []
+  | None ↦ []
   | Some facts ↦ unless (not facts.read_only) (ReadOnly at)
-  ]
+]
 read_only_slots scope _ = []
 
 -- what is unlawful in an initialiser by the three rules above on paths and values

@@ -54,9 +54,9 @@ slot_under type own first (Some second) = built_in_slot type.built_in (dotted fi
 -- the slot of an object; one of unknown type has every slot
 unfoldable pub slot_of : Scope → Path → Option SlotFacts
 slot_of scope path = elim scope.type [
-    None ↦ Some (record { kind = None; read_only = false })
+  | None ↦ Some (record { kind = None; read_only = false })
   | Some base ↦ slot_under (view_of base) scope.own path.first path.second
-  ]
+]
 
 -- ---- names
 -- a built-in type has something of that name: a slot, a signal, a method or a group of slots
@@ -131,6 +131,6 @@ handler_under type own first (Some second) = is_attached first second
 -- a handler of that path handles something; an object of unknown type has every handler
 unfoldable pub is_handler : Scope → Path → Bool
 is_handler scope path = elim scope.type [
-    None ↦ true
+  | None ↦ true
   | Some base ↦ handler_under (view_of base) scope.own path.first path.second
-  ]
+]

@@ -189,11 +189,7 @@ fn add_bound(
 }
 
 // Adds what a member binds a slot to.
-fn add_init(
-    alloc: Global,
-    member: &Member,
-    inits: &mut Items<InitDecl>,
-) -> Result<(), AllocError>
+fn add_init(alloc: Global, member: &Member, inits: &mut Items<InitDecl>) -> Result<(), AllocError>
     ensures { OnOk result (inits.new ≡ inits.old ++ inits_in (part_of member.now)) }
 {
     match member {
@@ -215,7 +211,10 @@ fn add_init(
             )
         }
         Member::Init {
-            path, init, span, ..
+            path,
+            init,
+            span,
+            ..
         } => add_bound(path.copy(alloc)?, init, *span, inits),
         _ => Ok(()),
     }

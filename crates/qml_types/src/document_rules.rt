@@ -82,7 +82,13 @@ fn faults_within(
             kind,
             init: Some(init),
             ..
-        } => given_faults(alloc, scope.known, kind_named(scope.known, kind), init, first),
+        } => given_faults(
+            alloc,
+            scope.known,
+            kind_named(scope.known, kind),
+            init,
+            first,
+        ),
         Member::Init { path, init, .. } => {
             let kind = kind_under(alloc, scope, path)?;
             given_faults(alloc, scope.known, kind, init, first)

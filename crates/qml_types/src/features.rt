@@ -139,11 +139,7 @@ pub fn gather(
 
 // The same for an object that has no members.
 #[cycle(gather)]
-fn gather_base(
-    alloc: Global,
-    base: &Base,
-    features: &mut FeatureMap,
-) -> Result<BuiltIn, AllocError>
+fn gather_base(alloc: Global, base: &Base, features: &mut FeatureMap) -> Result<BuiltIn, AllocError>
     requires { features.old ≡ [] }
     ensures { IfOk result (λ built_in. view_of base.now ≡ record { built_in = built_in; features = features.new }) }
 {

@@ -157,11 +157,7 @@ fn handler_under(
 
 /// Whether a handler of that path handles something. An object of unknown type has every handler.
 #[tactic(auto, unfolding(crate::specs::Scope::is_handler))]
-pub fn is_handler(
-    alloc: Global,
-    scope: &ObjectScope<'_>,
-    path: &Path,
-) -> Result<bool, AllocError>
+pub fn is_handler(alloc: Global, scope: &ObjectScope<'_>, path: &Path) -> Result<bool, AllocError>
     ensures { IfOk result (λ is. is ≡ is_handler (scope_seen scope.now) path.now) }
 {
     match scope.named {

@@ -18,15 +18,42 @@ struct KindWord {
 }
 
 static WORDS: [KindWord; 9] = [
-    KindWord { word: "int", kind: Kind::Int },
-    KindWord { word: "real", kind: Kind::Int },
-    KindWord { word: "double", kind: Kind::Int },
-    KindWord { word: "bool", kind: Kind::Bool },
-    KindWord { word: "string", kind: Kind::Str },
-    KindWord { word: "url", kind: Kind::Str },
-    KindWord { word: "color", kind: Kind::Color },
-    KindWord { word: "var", kind: Kind::Var },
-    KindWord { word: "variant", kind: Kind::Var },
+    KindWord {
+        word: "int",
+        kind: Kind::Int,
+    },
+    KindWord {
+        word: "real",
+        kind: Kind::Int,
+    },
+    KindWord {
+        word: "double",
+        kind: Kind::Int,
+    },
+    KindWord {
+        word: "bool",
+        kind: Kind::Bool,
+    },
+    KindWord {
+        word: "string",
+        kind: Kind::Str,
+    },
+    KindWord {
+        word: "url",
+        kind: Kind::Str,
+    },
+    KindWord {
+        word: "color",
+        kind: Kind::Color,
+    },
+    KindWord {
+        word: "var",
+        kind: Kind::Var,
+    },
+    KindWord {
+        word: "variant",
+        kind: Kind::Var,
+    },
 ];
 
 // What a property holds whose kind is that word.

@@ -21,12 +21,7 @@ use type_table::Kind;
 
 // Tells of a kind that is no word for one and no type's name. Gives the kind.
 #[tactic(auto, unfolding(crate::specs::Rules::unknown_kind))]
-fn tell_kind(
-    known: &Known,
-    name: &Name,
-    at: Span,
-    first: &mut Option<DocFault>,
-) -> Option<Kind>
+fn tell_kind(known: &Known, name: &Name, at: Span, first: &mut Option<DocFault>) -> Option<Kind>
     ensures kind { result ≡ kind_named known.now name.now }
     ensures told { first.new ≡ told first.old (unknown_kind known.now name.now at) }
 {
@@ -88,7 +83,9 @@ fn repeated_signal_params(
 {
     let mut seen = Names::new(alloc);
     for param in params {
-        let again = DocFault::DuplicateName { at: param.name_span };
+        let again = DocFault::DuplicateName {
+            at: param.name_span,
+        };
         claim(alloc, param.name.as_str(), again, &mut seen, first)?;
     }
     Ok(())
@@ -232,7 +229,10 @@ pub fn own_faults(
             Ok(())
         }
         Member::Method {
-            name, params, span, ..
+            name,
+            params,
+            span,
+            ..
         } => method_faults(alloc, scope, name, params.as_slice(), *span, first),
         Member::Child(_) => Ok(()),
     }

@@ -172,12 +172,7 @@ fn is_childless(scope: &ObjectScope<'_>, members: &[Member]) -> bool
 
 // Tells of a Component without a child.
 #[tactic(auto, unfolding(crate::specs::Rules::missing_child))]
-fn tell_missing(
-    scope: &ObjectScope<'_>,
-    at: Span,
-    members: &[Member],
-    first: &mut Option<DocFault>,
-)
+fn tell_missing(scope: &ObjectScope<'_>, at: Span, members: &[Member], first: &mut Option<DocFault>)
     ensures { first.new ≡ told first.old (missing_child (scope_seen scope.now) at (map part_of members.now)) }
 {
     let has_enough = !is_childless(scope, members);

@@ -179,7 +179,15 @@ fn place_member(
             place_given(alloc, scope.known, kind, file, owner, path, init, objects)
         }
         Member::Child(child) if !is_component(scope.named) => {
-            place_object(alloc, scope.known, file, Some(owner), Role::Child, child, objects)
+            place_object(
+                alloc,
+                scope.known,
+                file,
+                Some(owner),
+                Role::Child,
+                child,
+                objects,
+            )
         }
         _ => Ok(()),
     }

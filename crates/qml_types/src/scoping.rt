@@ -25,7 +25,10 @@ fn add_feature(
 {
     match member {
         Member::Property {
-            fixed, kind, name, ..
+            fixed,
+            kind,
+            name,
+            ..
         } => {
             let facts = SlotFacts {
                 kind: kind_named(known, kind),
@@ -40,11 +43,7 @@ fn add_feature(
 }
 
 // What an object's members declare.
-fn own_features(
-    alloc: Global,
-    known: &Known,
-    members: &[Member],
-) -> Result<FeatureMap, AllocError>
+fn own_features(alloc: Global, known: &Known, members: &[Member]) -> Result<FeatureMap, AllocError>
     ensures { IfOk result (λ own. own ≡ own_features known.now (map part_of members.now)) }
 {
     let mut own = FeatureMap::new(alloc);

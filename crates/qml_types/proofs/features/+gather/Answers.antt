@@ -16,10 +16,10 @@ gather-returns-in_ok-add_methods-in-len1-up t c =
     let root = c.root-item.result in
     root_has_type c.args.component.now c.as_slice.result.now root c.as_slice.ensures c.in-len1-up.len_at_least c.root-item.is
     ∙ members_added root (view_of (out-ObjectDecl root).base) c.in_ok-built_in-in-len1-up.built_in c.gather_base.new.features c.add_slots.new.features
-        c.add_signals.new.features c.add_methods.new.features c.in_ok-built_in-in-len1-up.ensures
-        (c.in_ok-add_slots-in-len1-up.ensures ∙ ap (λ xs. fold with_feature c.gather_base.new.features (map slot_feature xs)) c.as_slice-in-len1-up.ensures)
-        (c.in_ok-add_signals-in-len1-up.ensures ∙ ap (λ xs. fold with_feature c.add_slots.new.features (map signal_feature xs)) c.as_slice-in-len1-up-2.ensures)
-        (c.in_ok-add_methods-in-len1-up.ensures ∙ ap (λ xs. fold with_feature c.add_signals.new.features (map method_feature xs)) c.as_slice-in-len1-up-3.ensures)
+    c.add_signals.new.features c.add_methods.new.features c.in_ok-built_in-in-len1-up.ensures
+    (c.in_ok-add_slots-in-len1-up.ensures ∙ ap (λ xs. fold with_feature c.gather_base.new.features (map slot_feature xs)) c.as_slice-in-len1-up.ensures)
+    (c.in_ok-add_signals-in-len1-up.ensures ∙ ap (λ xs. fold with_feature c.add_slots.new.features (map signal_feature xs)) c.as_slice-in-len1-up-2.ensures)
+    (c.in_ok-add_methods-in-len1-up.ensures ∙ ap (λ xs. fold with_feature c.add_signals.new.features (map method_feature xs)) c.as_slice-in-len1-up-3.ensures)
 
 pub gather_base-returns-in-BuiltIn : goal.gather_base-returns-in-BuiltIn
 gather_base-returns-in-BuiltIn t c =
@@ -29,5 +29,5 @@ gather_base-returns-in-BuiltIn t c =
 pub gather_base-returns-in-Document : goal.gather_base-returns-in-Document
 gather_base-returns-in-Document t c =
     let view : view_of c.args.base.now ≡ type_of c.get.result.now =
-        ap view_of (c.in-Document.is ∙ ap (λ d. base.Document d) (sym c.get.ensures)) ∙ document_view c.get.result.now in
+    ap view_of (c.in-Document.is ∙ ap (λ d. base.Document d) (sym c.get.ensures)) ∙ document_view c.get.result.now in
     subst (λ v. IfOk c.gather.result (λ b. v ≡ record { built_in = b; features = c.gather.new.features })) (sym view) c.gather.ensures

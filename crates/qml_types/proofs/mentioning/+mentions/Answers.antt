@@ -13,8 +13,8 @@ mention_object-returns-clause-added t c =
 
 pub mention_members-loop-member-preserved : goal.mention_members-loop-member-preserved
 mention_members-loop-member-preserved t c = (
-    c.in_ok-mention_member.ensures.kept,
-    turn with_mention types_in c.args.members.now c.loop-member.member-index c.member-item.result c.loop-member.mentions c.mention_member.new.mentions
-    (fold with_mention c.args.mentions.now (flat_map types_in (map part_of c.args.members.now)))
-    c.member-item.is c.loop-member-test.true c.in_ok-mention_member.ensures.added c.loop-member.invariant.1,
+  c.in_ok-mention_member.ensures.kept,
+  turn with_mention types_in c.args.members.now c.loop-member.member-index c.member-item.result c.loop-member.mentions c.mention_member.new.mentions
+      (fold with_mention c.args.mentions.now (flat_map types_in (map part_of c.args.members.now)))
+      c.member-item.is c.loop-member-test.true c.in_ok-mention_member.ensures.added c.loop-member.invariant.1,
 )

@@ -9,7 +9,7 @@ returns-clause-fresh c =
     let keys = c.self.inside.texts.keys in
     c.in_ok-fresh.ensures.added
     ∙ ap not (texts_among keys c.in_ok-text.text ∙ ap (among (map string_bytes keys)) c.in_ok-text.ensures.ok
-        ∙ ap (λ names. among names c.args.name.now) c.self.view_is)
+    ∙ ap (λ names. among names c.args.name.now) c.self.view_is)
 
 pub returns-clause-added : goal.returns-clause-added
 returns-clause-added c =
