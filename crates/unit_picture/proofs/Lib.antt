@@ -1,0 +1,3 @@
+pub mod Unrolled
+pub mod Painted
+pub mod Noted
