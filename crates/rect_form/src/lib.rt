@@ -13,6 +13,3 @@ mod setting;
 pub use reading::rects;
 pub use rect::{RectDecl, Rects};
 pub use setting::Property;
-
-#[cfg(test)]
-mod tests;

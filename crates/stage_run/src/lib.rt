@@ -17,6 +17,3 @@ pub use laws::{one_fault, one_painting, one_script};
 pub use stage::{Outcome, run};
 pub use status::{Status, exit_of, status_line};
 pub use words::Words;
-
-#[cfg(test)]
-mod tests;

@@ -1,0 +1,11 @@
+//! Tests of whole runs: words, script and documents in, frames and a status out.
+#![tactic(auto)]
+
+#[cfg(test)]
+mod documents;
+#[cfg(test)]
+mod given;
+#[cfg(test)]
+mod pictures;
+#[cfg(test)]
+mod statuses;

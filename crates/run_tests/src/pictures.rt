@@ -1,0 +1,99 @@
+use crate::given::{Given, IMAGE, RED, outcome_of};
+use std::alloc::{AllocError, Global};
+use std::test::Fail;
+
+/// An image of 640 by 480 pixels that is white but for two red pixels in its upper left corner.
+fn is_two_red_pixels(image: &[u8]) -> bool {
+    image.len() == IMAGE
+        && image.starts_with(b"P6\n640 480\n255\n\xff\x00\x00\xff\x00\x00")
+        && image.iter().skip(21).all(|byte| *byte == 0xff)
+}
+
+const RED_PIXELS: [&str; 3] = [
+    "Rectangle{width:2;height:1;color:'#FF0000'}",
+    "import QtQuick 2.15; import QtQuick 2.0\nRectangle {\n  width: 0x2\n  height: (1)\n  color: \"#ff0000\"\n}",
+    "// two pixels\nRectangle { width: 2; height: 1; /* red */ color: \"\\u0023ff0000\"; x: 0 }\n",
+];
+
+fn is_drawn_so(alloc: Global, document: &str) -> Result<bool, AllocError> {
+    let given = Given {
+        words: &["Main.qml", "script.txt"],
+        files: &[("Main.qml", document), ("script.txt", "frame")],
+        failing: 0,
+        room: IMAGE,
+    };
+    let outcome = outcome_of(alloc, &given)?;
+    Ok(is_two_red_pixels(outcome.frames.contents()))
+}
+
+#[test]
+fn one_picture_in_many_spellings(rt: HostRuntime) -> Result<(), Fail> {
+    for document in RED_PIXELS {
+        assert!(rt; is_drawn_so(rt.alloc(), document)?, "{document}");
+    }
+    Ok(())
+}
+
+#[test]
+fn two_frames_are_twice_the_image(rt: HostRuntime) -> Result<(), Fail> {
+    let given = Given {
+        words: &["Main.qml", "script.txt"],
+        files: &[("Main.qml", RED), ("script.txt", "frame\nframe")],
+        failing: 0,
+        room: 2 * IMAGE,
+    };
+    let outcome = outcome_of(rt.alloc(), &given)?;
+    let written = outcome.frames.contents();
+    let is_whole = written.len() == 2 * IMAGE
+        && is_two_red_pixels(&written[..IMAGE])
+        && is_two_red_pixels(&written[IMAGE..]);
+    assert!(rt; is_whole);
+    Ok(())
+}
+
+/// Whether a run whose sink has so much room, of at most 40 bytes, has written as many of its first image.
+fn is_cut_at(alloc: Global, room: usize) -> Result<bool, AllocError> {
+    let start =
+        b"P6\n640 480\n255\n\xff\x00\x00\xff\x00\x00\xff\xff\xff\xff\xff\xff\xff\xff\xff\xff\xff\xff\xff\xff\xff\xff\xff\xff\xff";
+    let given = Given {
+        words: &["Main.qml", "script.txt"],
+        files: &[("Main.qml", RED), ("script.txt", "frame\nframe\n")],
+        failing: 0,
+        room,
+    };
+    let outcome = outcome_of(alloc, &given)?;
+    let written = outcome.frames.contents();
+    Ok(outcome.journal.len() == 1 && written.len() == room && start.starts_with(written))
+}
+
+#[test]
+fn a_sink_that_stops_has_a_prefix(rt: HostRuntime) -> Result<(), Fail> {
+    for room in 0..=40 {
+        assert!(rt; is_cut_at(rt.alloc(), room)?, "{room}");
+    }
+    Ok(())
+}
+
+/// A blue rectangle with a green one in it, in which a black one stands, and a white one over its corner.
+const NESTED: &str = r##"Rectangle { width: 3; height: 2; color: "#0000ff";
+    Rectangle { x: 1; y: 1; width: 9; height: 1; color: "#00ff00";
+        Rectangle { x: 1; width: 1; height: 1; color: "#000000" } }
+    Rectangle { width: 1; height: 1 } }"##;
+
+#[test]
+fn children_move_with_their_parents(rt: HostRuntime) -> Result<(), Fail> {
+    let given = Given {
+        words: &["Main.qml", "script.txt"],
+        files: &[("Main.qml", NESTED), ("script.txt", "frame")],
+        failing: 0,
+        room: IMAGE,
+    };
+    let outcome = outcome_of(rt.alloc(), &given)?;
+    let image = outcome.frames.contents();
+    let is_first_row = image[15..].starts_with(b"\xff\xff\xff\x00\x00\xff\x00\x00\xff\xff\xff\xff");
+    let is_second_row = image[1935..].starts_with(
+        b"\x00\x00\xff\x00\xff\x00\x00\x00\x00\x00\xff\x00\x00\xff\x00",
+    );
+    assert!(rt; image.len() == IMAGE && is_first_row && is_second_row);
+    Ok(())
+}
