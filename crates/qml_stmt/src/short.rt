@@ -342,7 +342,6 @@ pub(crate) fn simple_before(
 }
 
 /// The condition of a `for`, where there is one.
-#[tactic(auto, unfolding(qml_grammar::specs::Statements::test))]
 pub(crate) fn test(
     alloc: Global,
     levels: usize,
