@@ -1,8 +1,8 @@
 -- Locals by the index of their names.
-use Rattle.std.proofs.Common.{◌≡◌, ℕ, zero, suc, ◌+◌, ◌<◌, Bool, true, false, List, [], ◌∷◌, ◌++◌, length, take, refl, ap, sym, ◌∙◌, arith, add-one}
-use Rattle.std.specs.Prelude.{Option, None, Some, option_map, find, slice_index_or, slice_set, if◌then◌else◌}
+use Rattle.std.proofs.Common.{◌≡◌, ℕ, zero, suc, ◌+◌, ◌<◌, ◌≤◌, drop, Bool, true, false, List, [], ◌∷◌, ◌++◌, length, take, refl, ap, sym, ◌∙◌, arith, add-one}
+use Rattle.std.specs.Prelude.{Option, None, Some, option_map, find, slice_index_or, slice_set, slice_get, if◌then◌else◌}
 use Rattle.qml_ast.specs.declared.value.Value.{Value}
-use Rattle.expr_eval.specs.Names.{is_named, index_named, declared, assigned}
+use Rattle.expr_eval.specs.Names.{is_named, index_named, declared, assigned, bound}
 use Rattle.expr_eval.specs.declared.locals.Local.{Local}
 use Rattle.expr_eval.specs.declared.locals.Local.TheVariants.{Plain}
 use Rattle.expr_eval.specs.declared.locals.NamedLocal.{NamedLocal}
@@ -86,3 +86,28 @@ set_assigned name value (x ∷ xs) i d at = step (λ i. set_assigned name value 
     step more true is (suc i) at = absurd (let impossible : Some zero ≡ Some (suc i) = rw is at at in cc)
     step more false is zero at = absurd (not_first _ (rw is at at))
     step more false is (suc i) at = rw is (ap (λ ys. x ∷ ys) (more i (one_less _ i (rw is at at))))
+
+-- the next parameter takes the next argument
+pub bound_step : (ps : List (List ℕ)) (vs : List Value) (i : ℕ) (p : List ℕ) (v : Value) → i < length ps → p ≡ slice_index_or ps i p → slice_get vs i ≡ Some v → bound (drop i ps) (drop i vs) ≡ record { name = p; held = Plain v; fixed = false } ∷ bound (drop (suc i) ps) (drop (suc i) vs)
+bound_step [] vs i p v within is at = absurd (omega arith)
+bound_step (q ∷ qs) [] i p v within is at = absurd cc
+bound_step (q ∷ qs) (w ∷ ws) zero p v within is at = let same : w ≡ v = cc in rw (is, same) refl
+bound_step (q ∷ qs) (w ∷ ws) (suc i) p v within is at = bound_step qs ws i p v (omega arith) is at
+
+-- no parameter is left
+pub bound_past_params : (ps : List (List ℕ)) (vs : List Value) (i : ℕ) → length ps ≤ i → bound (drop i ps) vs ≡ []
+bound_past_params [] vs zero past = refl
+bound_past_params [] vs (suc i) past = refl
+bound_past_params (p ∷ ps) vs zero past = absurd (omega arith)
+bound_past_params (p ∷ ps) vs (suc i) past = bound_past_params ps vs i (omega arith)
+
+bound_to_none : (ps : List (List ℕ)) → bound ps [] ≡ []
+bound_to_none [] = refl
+bound_to_none (p ∷ ps) = refl
+
+-- no argument is left
+pub bound_past_values : (ps : List (List ℕ)) (vs : List Value) (i : ℕ) → slice_get vs i ≡ None → bound ps (drop i vs) ≡ []
+bound_past_values ps [] zero none = bound_to_none ps
+bound_past_values ps [] (suc i) none = bound_to_none ps
+bound_past_values ps (v ∷ vs) zero none = absurd cc
+bound_past_values ps (v ∷ vs) (suc i) none = bound_past_values ps vs i none

@@ -3,7 +3,10 @@ use Rattle.std.proofs.Common.{◌≡◌, refl, sym, ap}
 use Rattle.std.specs.Prelude.{◌≢◌, Result, Ok, Err}
 use Rattle.qml_ast.specs.declared.eval_fault.EvalFault.{EvalFault}
 use Rattle.qml_ast.specs.declared.eval_fault.EvalFault.TheVariants.{Overflow, ZeroDivisor, WrongKind, UnknownName, NullMember, TooMuch, TextTooLong, ReadOnly, NoMemory as NoMemoryFault}
-use Rattle.expr_eval.specs.Progress.{Stop, Fault, Asks, Evaluation, Gives, bind_to, lifted, halt_of}
+use Rattle.expr_eval.specs.Progress.{Stop, Fault, Asks, Evaluation, Gives, pure, bind_to, lifted, halt_of}
+use Rattle.qml_ast.specs.declared.value.Value.{Value}
+use Rattle.expr_eval.specs.Evaluation.{is_value}
+use Rattle.expr_eval.specs.declared.sense.Sense.TheVariants.{Is}
 use Rattle.expr_eval.specs.declared.progress.Halt.{Halt}
 use Rattle.expr_eval.specs.declared.progress.Halt.TheVariants.{Faulted, Needs, NoMemory}
 use Rattle.expr_eval.specs.declared.progress.Progress.{Progress}
@@ -25,3 +28,7 @@ lifts expected TooMuch s h = rw (sym (h (λ e. cc))) refl
 lifts expected TextTooLong s h = rw (sym (h (λ e. cc))) refl
 lifts expected ReadOnly s h = rw (sym (h (λ e. cc))) refl
 lifts expected NoMemoryFault s h = tt
+
+-- the same where the value is what an expression stands for
+pub lifts_value : (expected : Result Value EvalFault) (f : EvalFault) (s : Progress) → (◌≢◌ {A = Result Value EvalFault} (Err f) (Err NoMemoryFault) → ◌≡◌ {A = Result Value EvalFault} (Err f) expected) → Gives (is_value (lifted expected) s) (Err (halt_of f)) s
+lifts_value expected f s h = stops (lifted expected s) (λ x. pure (Is x)) (halt_of f) s (lifts expected f s h)

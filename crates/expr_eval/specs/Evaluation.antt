@@ -11,7 +11,7 @@ use Rattle.qml_ast.specs.declared.place.Place.{Place}
 use Rattle.qml_ast.specs.declared.value.Value.{Value}
 use Rattle.expr_eval.specs.Meanings.{Meanings, Function as Callable}
 use Rattle.expr_eval.specs.Names.{local_named, bound}
-use Rattle.expr_eval.specs.Operators.{binary_of, unary_of, arity, applied}
+use Rattle.expr_eval.specs.Operators.{binary_of, unary_of, arity, are_taken, applied}
 use Rattle.expr_eval.specs.Progress.{Stop, Fault, Asks, Evaluation, pure, fault, lifted, bind, node, read}
 use Rattle.expr_eval.specs.Senses.{meaning, global_member, mouse_member, value_member, held_sense}
 use Rattle.expr_eval.specs.declared.answer.Eval.{Eval}
@@ -42,10 +42,6 @@ is_value evaluation = bind evaluation (λ x. pure (Is x))
 abbrev pub is_same_truth : Bool → Bool → Bool
 is_same_truth true b = b
 is_same_truth false b = not b
-
-abbrev pub are_taken : Option ℕ → ℕ → Bool
-are_taken None n = false
-are_taken (Some taken) n = n == taken
 
 module _ (clean : Place → Bool) (means : Meanings) where
   -- Where a value is wanted, a place is read, and what is no value is a fault.

@@ -5,3 +5,4 @@ pub mod Operators
 pub mod Senses
 pub mod Progress
 pub mod Evaluation
+pub mod Needs

@@ -1,6 +1,6 @@
 -- What operators and global functions give for values. Sums, products and the like are the arithmetic of
 -- values; here are the rest.
-use Rattle.std.specs.Prelude.{ℕ, ℤ, pos, int_lt, int_le, Bool, not, if◌then◌else◌, List, [], ◌∷◌, Option, None, Some, Result, Ok, Err}
+use Rattle.std.specs.Prelude.{ℕ, ℤ, pos, int_lt, int_le, Bool, false, not, ◌==◌, if◌then◌else◌, List, [], ◌∷◌, Option, None, Some, Result, Ok, Err}
 use Rattle.std.specs.Int.{int_min, int_max}
 use Rattle.qml_ast.specs.Arithmetic.{sum_of, difference_of, product_of, quotient_of, remainder_of, truth_of}
 use Rattle.qml_ast.specs.Equality.{are_equal}
@@ -59,6 +59,10 @@ arity Floor = Some 1
 arity Ceil = Some 1
 arity Round = Some 1
 arity Log = None
+
+abbrev pub are_taken : Option ℕ → ℕ → Bool
+are_taken None n = false
+are_taken (Some taken) n = n == taken
 
 -- what a function gives. Numbers are whole, so three of them give their argument back
 abbrev pub applied : Function → List Value → Result Value EvalFault

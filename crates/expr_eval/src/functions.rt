@@ -1,7 +1,12 @@
-ghost use Rattle.std.specs.Prelude.{◌≡◌, Option};
-ghost use Rattle.expr_eval.specs.Operators.{applied, arity};
+ghost use Rattle.std.specs.Prelude.{◌≡◌};
+ghost use Rattle.expr_eval.specs.Evaluation.{is_value};
+ghost use Rattle.expr_eval.specs.Operators.{applied, are_taken, arity};
+ghost use Rattle.expr_eval.specs.Progress.{Gives, lifted};
+ghost use Rattle.expr_eval.specs.declared.progress.Progress.{Progress};
 
 use crate::operators::negated;
+use crate::progress::Halt;
+use crate::sense::Sense;
 use qml_ast::{EvalFault, Value};
 
 /// A function that is known everywhere.
@@ -23,21 +28,29 @@ pub(crate) enum Function {
     Log,
 }
 
-/// How many arguments a function takes within an expression. There it is none for what is called as a
-/// statement alone.
-pub(crate) fn arity(function: Function) -> Option<usize>
-    ensures { result ≡ arity function }
+/// Whether a function takes so many arguments within an expression. There what is called as a statement
+/// alone takes no number of them.
+pub(crate) fn takes(function: Function, count: usize) -> bool
+    ensures { result ≡ are_taken (arity function) count }
 {
     match function {
-        Function::Min | Function::Max => Some(2),
-        Function::Abs | Function::Floor | Function::Ceil | Function::Round => Some(1),
-        Function::Log => None,
+        Function::Min | Function::Max => count == 2,
+        Function::Abs | Function::Floor | Function::Ceil | Function::Round => count == 1,
+        Function::Log => false,
     }
 }
 
 /// What a function gives for its arguments. The faults are WrongKind where an argument is no number, and
 /// Overflow for the magnitude of -2147483648.
-pub(crate) fn applied(function: Function, arguments: &[Value]) -> Result<Value, EvalFault>
+#[tactic(auto, using(crate::proofs::Stops::lifts_value))]
+pub(crate) fn applied(function: Function, arguments: &[Value]) -> Result<Sense, Halt>
+    ensures { (s : Progress) → Gives (is_value (lifted (applied function arguments.now)) s) result s }
+{
+    Ok(Sense::Is(applied_value(function, arguments)?))
+}
+
+// What a function gives for its arguments, as a value.
+fn applied_value(function: Function, arguments: &[Value]) -> Result<Value, EvalFault>
     ensures { result ≡ applied function arguments.now }
 {
     match (function, arguments) {
@@ -50,10 +63,9 @@ pub(crate) fn applied(function: Function, arguments: &[Value]) -> Result<Value, 
             Ok(Value::Int(x.max(y)))
         }
         (Function::Abs, [Value::Int(n)]) if *n < 0 => negated(&arguments[0]),
-        (
-            Function::Abs | Function::Floor | Function::Ceil | Function::Round,
-            [Value::Int(n)],
-        ) => Ok(Value::Int(*n)),
+        (Function::Abs | Function::Floor | Function::Ceil | Function::Round, [Value::Int(n)]) => Ok(
+            Value::Int(*n),
+        ),
         _ => Err(EvalFault::WrongKind),
     }
 }

@@ -4,6 +4,7 @@
 #![tactic(auto)]
 
 mod answer;
+mod evaluation;
 mod found;
 mod functions;
 mod globals;
@@ -16,6 +17,7 @@ mod sense;
 mod trace;
 
 pub use answer::Eval;
+pub use evaluation::eval;
 pub use found::{Found, Frame, GlobalName, GroupName};
 pub use locals::{Local, Locals, NamedLocal};
 pub use reader::{Method, Reader};

@@ -1,6 +1,6 @@
-ghost use Rattle.std.specs.Prelude.{◌≡◌, ◌<◌, [], length, slice_index_or, slice_set, OnOk, OnErr, IfSome};
+ghost use Rattle.std.specs.Prelude.{◌≡◌, ◌<◌, [], length, slice_index_or, slice_set, OnOk, OnErr, IfOk, IfSome};
 ghost use Rattle.std.specs.Option.{option_copied};
-ghost use Rattle.expr_eval.specs.Names.{local_named, index_named, declared, assigned, assignable, assignable_to, is_fixed};
+ghost use Rattle.expr_eval.specs.Names.{local_named, index_named, declared, assigned, assignable, assignable_to, is_fixed, bound};
 ghost use Rattle.expr_eval.specs.declared.locals.Local.TheVariants.{Plain};
 ghost use Rattle.expr_eval.specs.declared.locals.NamedLocal.{NamedLocal};
 
@@ -63,6 +63,33 @@ impl Locals {
         Locals {
             entries: Vec::new(alloc),
         }
+    }
+
+    /// The parameters of a method with the arguments of a call.
+    #[tactic(auto, using(crate::proofs::Named::bound_past_params, crate::proofs::Named::bound_past_values))]
+    pub(crate) fn of_call(
+        alloc: Global,
+        params: &[Name],
+        arguments: &[Value],
+    ) -> Result<Locals, AllocError>
+        ensures { IfOk result (λ locals. locals ≡ bound params.now arguments.now) }
+    {
+        let mut entries = Vec::new(alloc);
+        for (i, param) in params.iter().enumerate() {
+            match sqlite_items::at(arguments, i) {
+                Some(argument) => {
+                    let name = param.copy(alloc)?;
+                    let held = Local::Plain(argument.copy(alloc)?);
+                    entries.push(NamedLocal {
+                        name,
+                        held,
+                        fixed: false,
+                    })?;
+                }
+                None => return Ok(Locals { entries }),
+            }
+        }
+        Ok(Locals { entries })
     }
 
     /// Declares a local, in place of an earlier one of that name. `fixed` says that nothing can be

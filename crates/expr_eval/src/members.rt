@@ -1,5 +1,5 @@
 ghost use Rattle.std.specs.Prelude.{◌≡◌, ◌≢◌, Err};
-ghost use Rattle.expr_eval.specs.Evaluation.{member, named};
+ghost use Rattle.expr_eval.specs.Evaluation.{as_value, member, named};
 ghost use Rattle.expr_eval.specs.Names.{local_named};
 ghost use Rattle.expr_eval.specs.Progress.{Gives, Grows, lifted};
 ghost use Rattle.expr_eval.specs.Senses.{value_member};
@@ -58,6 +58,28 @@ pub(crate) fn member<R: Reader>(
         Sense::Method(..) | Sense::Signal(..) | Sense::Function(_) => {
             Err(Halt::Faulted(EvalFault::WrongKind))
         }
+    }
+}
+
+/// The value of what an expression stands for. A place is read, and what is no value is a fault.
+pub(crate) fn as_value<R: Reader>(
+    alloc: Global,
+    sense: Sense,
+    reader: &R,
+    progress: &mut Progress,
+) -> Result<Value, Halt>
+    ensures value { Gives (as_value (R.clean reader.now) (R.means reader.now) sense progress.old) result progress.new }
+    ensures grows { Grows progress.old progress.new }
+{
+    match sense {
+        Sense::Is(value) => Ok(value),
+        Sense::At(place) => read_place(alloc, place, reader, progress),
+        Sense::Group(..)
+        | Sense::Method(..)
+        | Sense::Signal(..)
+        | Sense::Global(_)
+        | Sense::Function(_)
+        | Sense::Mouse(..) => Err(Halt::Faulted(EvalFault::WrongKind)),
     }
 }
 

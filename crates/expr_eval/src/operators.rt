@@ -1,14 +1,41 @@
 ghost use Rattle.std.specs.Prelude.{◌≡◌, ◌≢◌, int_lt, int_le, Err};
 ghost use Rattle.qml_ast.specs.declared.eval_fault.EvalFault.TheVariants.{NoMemory};
+ghost use Rattle.expr_eval.specs.Evaluation.{is_value};
 ghost use Rattle.expr_eval.specs.Operators.{binary_of, unary_of, negated, plain_number, ordered};
+ghost use Rattle.expr_eval.specs.Progress.{Gives, lifted};
+ghost use Rattle.expr_eval.specs.declared.progress.Progress.{Progress};
 
+use crate::progress::Halt;
+use crate::sense::Sense;
 use qml_ast::{BinOp, EvalFault, UnOp, Value, add, div, equal, mul, rem, sub, truth};
 use std::alloc::Global;
 
 /// What an operator gives for two values. The faults are those of the arithmetic, and WrongKind where an
 /// order is asked of values that are not two numbers. Equality converts nothing.
-#[tactic(auto, unfolding(crate::specs::Operators::binary_of))]
+#[tactic(auto, using(crate::proofs::Stops::lifts_value))]
 pub(crate) fn binary(
+    alloc: Global,
+    operator: BinOp,
+    left: &Value,
+    right: &Value,
+) -> Result<Sense, Halt>
+    ensures { (s : Progress) → Gives (is_value (lifted (binary_of operator left.now right.now)) s) result s }
+{
+    Ok(Sense::Is(binary_value(alloc, operator, left, right)?))
+}
+
+/// What an operator gives for one value. The faults are WrongKind where a sign stands before another kind
+/// than a number, and Overflow for the negation of -2147483648.
+#[tactic(auto, using(crate::proofs::Stops::lifts_value))]
+pub(crate) fn unary(operator: UnOp, operand: &Value) -> Result<Sense, Halt>
+    ensures { (s : Progress) → Gives (is_value (lifted (unary_of operator operand.now)) s) result s }
+{
+    Ok(Sense::Is(unary_value(operator, operand)?))
+}
+
+// What an operator gives for two values, as a value.
+#[tactic(auto, unfolding(crate::specs::Operators::binary_of))]
+fn binary_value(
     alloc: Global,
     operator: BinOp,
     left: &Value,
@@ -31,10 +58,9 @@ pub(crate) fn binary(
     }
 }
 
-/// What an operator gives for one value. The faults are WrongKind where a sign stands before another kind
-/// than a number, and Overflow for the negation of -2147483648.
+// What an operator gives for one value, as a value.
 #[tactic(auto, unfolding(crate::specs::Operators::unary_of))]
-pub(crate) fn unary(operator: UnOp, operand: &Value) -> Result<Value, EvalFault>
+fn unary_value(operator: UnOp, operand: &Value) -> Result<Value, EvalFault>
     ensures { result ≡ unary_of operator operand.now }
 {
     match operator {
