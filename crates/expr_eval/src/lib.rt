@@ -8,6 +8,7 @@ mod evaluation;
 mod found;
 mod functions;
 mod globals;
+pub mod laws;
 mod locals;
 mod members;
 mod operators;
