@@ -145,10 +145,10 @@ module _ (clean : Place → Bool) where
 
     sound_bind : (x y : Evaluation A) → Sound x y → Sound (bind x k) (bind y l)
     sound_bind x y first = record {
-        cut = λ s all. cut_to (x s) (y s) (first.cut s all) (first.kept s all);
-        kept = λ s all. kept_to (x s) (first.kept s all);
-        grows = λ s. begins_on s.trace (y s).1.trace (bind y l s).1.trace (first.grows s) (grows_to (y s))
-      }
+      cut = λ s all. cut_to (x s) (y s) (first.cut s all) (first.kept s all);
+      kept = λ s all. kept_to (x s) (first.kept s all);
+      grows = λ s. begins_on s.trace (y s).1.trace (bind y l s).1.trace (first.grows s) (grows_to (y s));
+    }
 
   sound_if : {A : Type 0} (b c : Bool) (x y v w : Evaluation A) → b ≡ c → Sound x y → Sound v w → Sound (if b then x else v) (if c then y else w)
   sound_if true true x y v w is p q = p
@@ -207,18 +207,18 @@ module _ (clean : Place → Bool) where
         sound_values done [] around = sound_pure done
         sound_values done (x ∷ xs) around =
             sound_bind (λ a. values clean means (done ++ a ∷ []) (map f (map of xs)) around) (λ a. values every whole (done ++ a ∷ []) (map g (map of xs)) around)
-              (λ a. sound_values (done ++ a ∷ []) xs around) (value clean means (f (of x)) around) (value every whole (g (of x)) around) (sound_value (f (of x)) (g (of x)) around (each x around))
+            (λ a. sound_values (done ++ a ∷ []) xs around) (value clean means (f (of x)) around) (value every whole (g (of x)) around) (sound_value (f (of x)) (g (of x)) around (each x around))
 
         sound_function_call : (function : GlobalFunction) (xs : List S) (around : Around) → Sound (function_call clean means function (map f (map of xs)) around) (function_call every whole function (map g (map of xs)) around)
         sound_function_call function xs around =
             sound_if _ _ _ _ _ _ (ap (are_taken (arity function)) (as_many xs))
-              (sound_bind (λ vs. lifted (applied function vs)) (λ vs. lifted (applied function vs)) (λ vs. sound_lifted (applied function vs)) _ _ (sound_values [] xs around)) (sound_fault WrongKind)
+            (sound_bind (λ vs. lifted (applied function vs)) (λ vs. lifted (applied function vs)) (λ vs. sound_lifted (applied function vs)) _ _ (sound_values [] xs around)) (sound_fault WrongKind)
 
         sound_method_call : (method : Option Callable) (xs : List S) (around : Around) → Sound (method_call clean means bodies method (map f (map of xs)) around) (method_call every whole others method (map g (map of xs)) around)
         sound_method_call None xs around = sound_fault WrongKind
         sound_method_call (Some method) xs around =
             sound_if _ _ _ _ _ _ (ap (λ n. n == length method.params) (as_many xs))
-              (sound_bind (λ vs. bodies method.body (method.frame, bound method.params vs)) (λ vs. others method.body (method.frame, bound method.params vs)) (λ vs. sound_bodies method.body (method.frame, bound method.params vs)) _ _ (sound_values [] xs around)) (sound_fault WrongKind)
+            (sound_bind (λ vs. bodies method.body (method.frame, bound method.params vs)) (λ vs. others method.body (method.frame, bound method.params vs)) (λ vs. sound_bodies method.body (method.frame, bound method.params vs)) _ _ (sound_values [] xs around)) (sound_fault WrongKind)
 
         sound_call : (sense : Sense) (xs : List S) (around : Around) → Sound (call clean means bodies (map f (map of xs)) around sense) (call every whole others (map g (map of xs)) around sense)
         sound_call (Function function) xs around = sound_function_call function xs around
@@ -271,7 +271,7 @@ module _ (clean : Place → Bool) where
           let right = fold-roll-Expr Visit (step every whole (body every whole calls)) (map-Expr S Expr of y) in
           let core = sound_step (body clean means calls) (body every whole calls) sound_bodies (meant clean means calls) (meant every whole calls) of each y around in
           subst (λ (v : Visit). Sound (v around) (meant every whole calls (roll-Expr (map-Expr S Expr of y)) around)) (sym left)
-            (subst (λ (w : Visit). Sound (step clean means (body clean means calls) (map-Expr Expr Visit (meant clean means calls) (map-Expr S Expr of y)) around) (w around)) (sym right) core)
+          (subst (λ (w : Visit). Sound (step clean means (body clean means calls) (map-Expr Expr Visit (meant clean means calls) (map-Expr S Expr of y)) around) (w around)) (sym right) core)
 
       agrees : (e : Expr) → Agrees calls e
       agrees e = ind-Expr (Agrees calls) (λ x y is. subst (λ l. Agrees calls (roll-Expr l)) is (layer (λ z. z.0) (λ z. z.1) y)) e
@@ -299,9 +299,10 @@ module _ (clean : Place → Bool) where
     agree : (e : Expr) (frame : Frame) (locals : List NamedLocal) → Cuts clean (evaluated clean means e frame locals []) (value_and_reads whole e frame locals) × AllClean clean (evaluated clean means e frame locals []).1
     agree e frame locals =
         let both = sound_value (meant clean means 64 e) (meant every whole 64 e) (frame, locals) (agrees 64 (bodies_agree 64) e (frame, locals)) in
-        let start : Progress = record { nodes = 0; trace = [] } in
-        (cut_answer (value clean means (meant clean means 64 e) (frame, locals) start) (value every whole (meant every whole 64 e) (frame, locals) start) (both.cut start tt),
-         kept_answer (value clean means (meant clean means 64 e) (frame, locals) start) (both.kept start tt))
+        let start : Progress = record { nodes = 0; trace = [] } in (
+          cut_answer (value clean means (meant clean means 64 e) (frame, locals) start) (value every whole (meant every whole 64 e) (frame, locals) start) (both.cut start tt),
+          kept_answer (value clean means (meant clean means 64 e) (frame, locals) start) (both.kept start tt),
+        )
 
 -- an evaluation stops at the first read place that has no value yet
 pub stops_at_first_unclean : (clean : Place → Bool) (means : Meanings) (settled : Place → Value) (e : Expr) (frame : Frame) (locals : List NamedLocal) → StopsAtFirstUnclean clean means settled e frame locals

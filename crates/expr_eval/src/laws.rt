@@ -16,5 +16,4 @@ ghost use Rattle.expr_eval.specs.declared.locals.NamedLocal.{NamedLocal};
 pub fn stops_at_first_unclean()
     ensures { (clean : Place → Bool) (means : Meanings) (settled : Place → Value) (e : Expr) (frame : Frame) (locals : List NamedLocal) →
         StopsAtFirstUnclean clean means settled e frame locals }
-{
-}
+{}
