@@ -1,5 +1,5 @@
 -- The layers of an expression, a method's body one call further in, and arguments one by one.
-use Rattle.std.proofs.Common.{◌≡◌, ℕ, zero, suc, ◌+◌, ◌<◌, ◌≤◌, refl, ap, sym, ◌∙◌, List, [], ◌∷◌, ◌++◌, map, length, drop, get_or, drop-cons, arith}
+use Rattle.std.proofs.Common.{◌≡◌, ℕ, zero, suc, ◌<◌, ◌≤◌, refl, ap, sym, ◌∙◌, List, [], ◌∷◌, ◌++◌, map, length, drop, get_or, arith}
 use Rattle.std.specs.Prelude.{Bool, Ok}
 use Rattle.qml_ast.specs.declared.expr.Expr.{Expr, fold-roll-Expr}
 use Rattle.qml_ast.specs.declared.expr.Expr.TheVariants as ee

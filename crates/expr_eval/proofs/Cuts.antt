@@ -1,11 +1,10 @@
 -- An evaluation over places of which some have no value yet goes as the one over all their values, up to
 -- the first place that has none.
-use Rattle.std.proofs.Common.{◌≡◌, ℕ, zero, suc, ◌+◌, ◌<◌, Bool, true, false, List, [], ◌∷◌, ◌++◌, map, refl, ap, sym, ◌∙◌, subst, arith, append_assoc, length}
-use Rattle.std.specs.Prelude.{Option, None, Some, Result, Ok, Err, if◌then◌else◌, nat_lt, ◌==◌, ◌&&◌, not}
+use Rattle.std.proofs.Common.{◌≡◌, ℕ, zero, suc, Bool, true, false, List, [], ◌∷◌, ◌++◌, map, refl, ap, sym, ◌∙◌, subst, arith, append_assoc, length}
+use Rattle.std.specs.Prelude.{Option, None, Some, Result, Ok, Err, if◌then◌else◌, nat_lt, ◌==◌, ◌&&◌}
 use Rattle.std.specs.List.{list_any}
 use Rattle.std.proofs.lemmas.List.{append-nil}
 use Rattle.std.proofs.lemmas.Bool.Decides.{nat_tests}
-use Rattle.qml_ast.specs.Arithmetic.{truth_of}
 use Rattle.qml_ast.specs.declared.eval_fault.EvalFault.{EvalFault}
 use Rattle.qml_ast.specs.declared.eval_fault.EvalFault.TheVariants.{WrongKind, TooMuch}
 use Rattle.qml_ast.specs.declared.expr.BinOp.{BinOp}
@@ -23,7 +22,7 @@ use Rattle.expr_eval.specs.Operators.{are_taken, arity, applied, binary_of, unar
 use Rattle.expr_eval.specs.Senses.{meaning, global_member, mouse_member, value_member}
 use Rattle.expr_eval.specs.Traces.{are_same, are_same_sides, noted}
 use Rattle.expr_eval.specs.Progress.{Stop, Fault, Asks, Evaluation, pure, fault, lifted, bind_to, bind, node, read}
-use Rattle.expr_eval.specs.Evaluation.{Around, Visit, Bodies, as_value, value, values, is_value, is_same_truth, member, named, function_call, method_call, call, prefixed, joined, either, chosen, visit, step, body, meant, answer_of, evaluated}
+use Rattle.expr_eval.specs.Evaluation.{Around, Visit, Bodies, as_value, value, values, is_value, member, named, function_call, method_call, call, prefixed, joined, either, chosen, visit, step, body, meant, answer_of, evaluated}
 use Rattle.expr_eval.specs.declared.found.Frame.{Frame}
 use Rattle.expr_eval.specs.declared.functions.Function.{Function as GlobalFunction}
 use Rattle.expr_eval.specs.declared.locals.NamedLocal.{NamedLocal}

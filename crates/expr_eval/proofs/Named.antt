@@ -1,6 +1,6 @@
 -- Locals by the index of their names.
-use Rattle.std.proofs.Common.{◌≡◌, ℕ, zero, suc, ◌+◌, ◌<◌, ◌≤◌, drop, Bool, true, false, List, [], ◌∷◌, ◌++◌, length, take, refl, ap, sym, ◌∙◌, arith, add-one}
-use Rattle.std.specs.Prelude.{Option, None, Some, option_map, find, slice_index_or, slice_set, slice_get, if◌then◌else◌}
+use Rattle.std.proofs.Common.{◌≡◌, ℕ, zero, suc, ◌<◌, ◌≤◌, drop, Bool, true, false, List, [], ◌∷◌, ◌++◌, length, take, refl, ap, arith}
+use Rattle.std.specs.Prelude.{Option, None, Some, option_map, find, slice_index_or, slice_set, slice_get}
 use Rattle.qml_ast.specs.declared.value.Value.{Value}
 use Rattle.expr_eval.specs.Names.{is_named, index_named, declared, assigned, bound}
 use Rattle.expr_eval.specs.declared.locals.Local.{Local}

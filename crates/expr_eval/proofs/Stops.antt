@@ -1,9 +1,9 @@
 -- What an evaluation that stops gives to those that would come after it.
-use Rattle.std.proofs.Common.{◌≡◌, refl, sym, ap}
-use Rattle.std.specs.Prelude.{◌≢◌, Result, Ok, Err}
+use Rattle.std.proofs.Common.{◌≡◌, refl, sym}
+use Rattle.std.specs.Prelude.{◌≢◌, Result, Err}
 use Rattle.qml_ast.specs.declared.eval_fault.EvalFault.{EvalFault}
 use Rattle.qml_ast.specs.declared.eval_fault.EvalFault.TheVariants.{Overflow, ZeroDivisor, WrongKind, UnknownName, NullMember, TooMuch, TextTooLong, ReadOnly, NoMemory as NoMemoryFault}
-use Rattle.expr_eval.specs.Progress.{Stop, Fault, Asks, Evaluation, Gives, pure, bind_to, lifted, halt_of}
+use Rattle.expr_eval.specs.Progress.{Stop, Evaluation, Gives, pure, bind_to, lifted, halt_of}
 use Rattle.qml_ast.specs.declared.value.Value.{Value}
 use Rattle.expr_eval.specs.Evaluation.{is_value}
 use Rattle.expr_eval.specs.declared.sense.Sense.TheVariants.{Is}

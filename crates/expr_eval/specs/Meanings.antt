@@ -1,5 +1,5 @@
 -- What a store means to an expression.
-use Rattle.std.specs.Prelude.{ℕ, Bool, List, map, Option, Some, None, if◌then◌else◌}
+use Rattle.std.specs.Prelude.{ℕ, Bool, List, Option, Some, None, if◌then◌else◌}
 use Rattle.qml_ast.specs.declared.expr.Expr.{Expr}
 use Rattle.qml_ast.specs.declared.place.Place.{Place}
 use Rattle.qml_ast.specs.declared.value.Value.{Value}

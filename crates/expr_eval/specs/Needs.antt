@@ -1,6 +1,6 @@
 -- Evaluations of one expression over two stores: one in which some places have no value yet, and one in
 -- which all have.
-use Rattle.std.specs.Prelude.{◌≡◌, ℕ, Bool, true, false, List, [], ◌∷◌, ◌++◌}
+use Rattle.std.specs.Prelude.{◌≡◌, Bool, true, false, List, [], ◌∷◌, ◌++◌}
 use Rattle.qml_ast.specs.declared.expr.Expr.{Expr}
 use Rattle.qml_ast.specs.declared.place.Place.{Place}
 use Rattle.qml_ast.specs.declared.value.Value.{Value}

@@ -1,5 +1,5 @@
 -- How far an evaluation has come, and what evaluations are.
-use Rattle.std.specs.Prelude.{◌≡◌, ℕ, ◌+◌, ◌≤◌, nat_lt, Bool, if◌then◌else◌, List, Result, Ok, Err}
+use Rattle.std.specs.Prelude.{◌≡◌, ◌+◌, ◌≤◌, nat_lt, Bool, if◌then◌else◌, Result, Ok, Err}
 use Rattle.qml_ast.specs.declared.eval_fault.EvalFault.{EvalFault}
 use Rattle.qml_ast.specs.declared.eval_fault.EvalFault.TheVariants.{TooMuch, NoMemory as NoMemoryFault}
 use Rattle.qml_ast.specs.declared.place.Place.{Place}

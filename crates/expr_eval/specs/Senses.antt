@@ -1,5 +1,5 @@
 -- What names and members stand for, before their values are asked for.
-use Rattle.std.specs.Prelude.{ℕ, ℤ, pos, ◌==◌, Bool, if◌then◌else◌, List, [], ◌∷◌, Option, None, Some, codes, bytes_eq, Result, Ok, Err}
+use Rattle.std.specs.Prelude.{ℕ, ℤ, pos, ◌==◌, if◌then◌else◌, List, [], ◌∷◌, Option, None, Some, codes, bytes_eq, Result, Ok, Err}
 use Rattle.qml_ast.specs.declared.eval_fault.EvalFault.{EvalFault}
 use Rattle.qml_ast.specs.declared.eval_fault.EvalFault.TheVariants.{WrongKind, UnknownName, NullMember}
 use Rattle.qml_ast.specs.declared.value.Value.{Value}

@@ -1,8 +1,8 @@
-use Rattle.std.proofs.Common.{◌≡◌, suc, ◌-◌, ap, ◌∙◌, refl, arith, sym}
+use Rattle.std.proofs.Common.{◌≡◌, suc, ◌-◌, ap, ◌∙◌, refl, arith}
 use Rattle.std.specs.Prelude.{Ok}
-use Rattle.expr_eval.specs.Evaluation.{body, value, meant}
+use Rattle.expr_eval.specs.Evaluation.{body}
 use Rattle.expr_eval.specs.Progress.{node}
-use Rattle.expr_eval.proofs.Bodies.{deeper, at_call, values_more, values_end}
+use Rattle.expr_eval.proofs.Bodies.{deeper, at_call}
 use Rattle.expr_eval.proofs.evaluation.+evaluation.Goals as goal
 
 pub body_value-returns-then-at-eq0-clause-value : goal.body_value-returns-then-at-eq0-clause-value

@@ -1,6 +1,6 @@
 use Rattle.std.proofs.Common.{◌≡◌, sym, ◌∙◌, refl, [], false}
-use Rattle.std.specs.Prelude.{None, Some, find, slice_index_or, slice_set}
-use Rattle.expr_eval.specs.Names.{is_named, assigned}
+use Rattle.std.specs.Prelude.{None, Some, find, slice_index_or}
+use Rattle.expr_eval.specs.Names.{is_named}
 use Rattle.expr_eval.specs.declared.locals.Local.TheVariants.{Plain}
 use Rattle.expr_eval.specs.declared.locals.NamedLocal.{NamedLocal}
 use Rattle.expr_eval.proofs.Named.{find_none, find_at, set_assigned}

@@ -1,6 +1,4 @@
-use Rattle.std.proofs.Common.{◌≡◌, sym, ◌∙◌, refl, ap, ◌++◌, ◌∷◌, []}
-use Rattle.std.specs.Prelude.{None, Some, slice_set}
-use Rattle.expr_eval.specs.Names.{declared}
+use Rattle.std.proofs.Common.{sym, ◌∙◌}
 use Rattle.expr_eval.proofs.Named.{set_declared, push_declared}
 use Rattle.expr_eval.proofs.locals.Locals.declare.Goals as goal
 

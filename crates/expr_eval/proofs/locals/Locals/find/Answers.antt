@@ -1,4 +1,4 @@
-use Rattle.std.proofs.Common.{◌≡◌, sym, ◌∙◌, refl, ap}
+use Rattle.std.proofs.Common.{◌≡◌, sym, ◌∙◌, refl}
 use Rattle.std.specs.Prelude.{None, Some, find, slice_index_or}
 use Rattle.expr_eval.specs.Names.{is_named}
 use Rattle.expr_eval.proofs.Named.{find_none, find_at}

@@ -1,4 +1,4 @@
-use Rattle.std.proofs.Common.{◌≡◌, sym, ◌∙◌, add-one, ap, ◌++◌, append_assoc, arith, refl, [], drop}
+use Rattle.std.proofs.Common.{◌≡◌, sym, ◌∙◌, add-one, ap, ◌++◌, append_assoc, arith, [], drop}
 use Rattle.std.specs.Prelude.{None, Some, slice_get}
 use Rattle.std.specs.Option.{option_copied}
 use Rattle.std.proofs.lemmas.List.{append-nil}

@@ -1,5 +1,5 @@
-use Rattle.std.proofs.Common.{◌≡◌, true, false, slice_index_or, sym, ◌∙◌, refl, arith, add-one}
-use Rattle.expr_eval.specs.Names.{index_named, is_named}
+use Rattle.std.proofs.Common.{◌≡◌, true, false, slice_index_or, sym, ◌∙◌, arith, add-one}
+use Rattle.expr_eval.specs.Names.{is_named}
 use Rattle.expr_eval.proofs.Named.{found_at, none_more}
 use Rattle.expr_eval.proofs.locals.Locals.position.Goals as goal
 
