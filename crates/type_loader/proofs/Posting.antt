@@ -1,5 +1,5 @@
 -- The steps of postorder.
-use Rattle.std.proofs.Common.{◌≡◌, ◌≢◌, ℕ, zero, suc, ◌-◌, true, false, List, fold, Result, Ok, Err, OnOk, refl, sym, ap, ◌∙◌, arith}
+use Rattle.std.proofs.Common.{◌≡◌, ◌≢◌, ℕ, zero, suc, ◌-◌, true, false, List, fold, Result, Ok, Err, OnOk, [], ◌∷◌, length, map, drop, ◌≤◌, subst, refl, sym, ap, ◌∙◌, arith}
 use Rattle.type_loader.specs.Cycles.{mentioned_by}
 use Rattle.type_loader.specs.Naming.{among, with_name}
 use Rattle.type_loader.specs.Order.{post}
@@ -24,3 +24,13 @@ post_more sources (suc levels) done name some not =
 pub on_ok : {A E : Type 0} (result : Result A E) (P Q : Type 0) → (P → Q) → OnOk result P → OnOk result Q
 on_ok (Ok x) P Q so p = so p
 on_ok (Err e) P Q so p = tt
+
+dropped : {A : Type 0} (xs : List A) (i : ℕ) → length xs ≤ i → drop i xs ≡ []
+dropped [] zero past = refl
+dropped [] (suc i) past = refl
+dropped (x ∷ xs) zero past = absurd (omega arith)
+dropped (x ∷ xs) (suc i) past = dropped xs i (omega arith)
+
+-- what a loop over a list has done at its end
+pub done_at_end : {A B D : Type 0} (f : D → B → D) (g : A → B) (done target : D) (items : List A) (i : ℕ) → length items ≤ i → fold f done (map g (drop i items)) ≡ target → done ≡ target
+done_at_end f g done target items i past is = subst (λ xs. fold f done (map g xs) ≡ target) (dropped items i past) is
