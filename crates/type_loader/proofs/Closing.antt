@@ -44,7 +44,7 @@ something_at (x ∷ xs) zero within = (x, refl)
 something_at (x ∷ xs) (suc i) within = something_at xs i (omega arith)
 
 -- a list that ends there has no more places
-ended : {A : Type 0} (xs : List A) (n : ℕ) → slice_get xs n ≡ None → length xs ≤ n
+pub ended : {A : Type 0} (xs : List A) (n : ℕ) → slice_get xs n ≡ None → length xs ≤ n
 ended [] n none = omega arith
 ended (x ∷ xs) zero none = absurd cc
 ended (x ∷ xs) (suc n) none = let rest : length xs ≤ n = ended xs n none in omega (arith, rest)

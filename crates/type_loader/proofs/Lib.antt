@@ -10,3 +10,5 @@ pub mod Posting
 pub mod Cycling
 pub mod Closing
 pub mod Uniting
+pub mod Once
+pub mod Answering

@@ -10,7 +10,7 @@ use Rattle.type_loader.specs.Entries.{Entries, AreKept, Truly, document_in, with
 use Rattle.type_loader.specs.Faults.{IsFlawOf, fault_of}
 use Rattle.type_loader.specs.Naming.{file_of, IsLawful}
 use Rattle.type_loader.specs.Sources.{AreFirst, AreRead, HasDocument, names_of, next_name, with_mentions}
-use Rattle.type_loader.specs.Units.{AreMadeTo, IsAwaited, IsNoFile, ShowsFault}
+use Rattle.type_loader.specs.Units.{AreMadeTo, HasUnitFault, IsAwaited, IsNoFile, ShowsFault}
 use Rattle.type_loader.specs.declared.flaw.Flaw.{Flaw}
 use Rattle.type_loader.specs.declared.flaw.Flaw.TheVariants as flaw
 use Rattle.type_loader.specs.declared.source.Source.{Source}
@@ -139,3 +139,7 @@ pub record IsStoppedAt {F : Type 0} (held : Option Store) (old new : Entries) (b
 -- there is no unit of that file
 pub record IsUnloaded {F : Type 0} (held : Option Store) (old new : Entries) (before after : F) (reads_before reads_after : ℕ) (file : List ℕ) (fault : LoadFault) : Type 0 where
   pub is : IsUnlisted old new before after file fault ⊎ IsStoppedAt held old new before after reads_before reads_after file fault
+
+-- a fault that is no want of memory and no failed read is the told files' fault of that file
+abbrev pub IsToldFault : Store → List ℕ → LoadFault → Type 0
+IsToldFault files file fault = fault ≢ load.NoMemory → fault ≢ load.Read → HasUnitFault files file fault

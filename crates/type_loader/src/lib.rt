@@ -8,6 +8,7 @@ mod cycle;
 mod fetching;
 pub mod flaw;
 mod gathering;
+pub mod laws;
 mod loading;
 pub mod made;
 mod naming;
@@ -18,5 +19,6 @@ mod telling;
 pub mod unit;
 
 pub use cache::Cache;
+pub use laws::one_answer;
 pub use loading::load;
 pub use unit::{Arrival, Unit};

@@ -1,8 +1,12 @@
-ghost use Rattle.std.specs.Prelude.{◌≡◌, ◌≤◌, length, IfOk, IfErr};
-ghost use Rattle.type_loader.specs.Loads.{IsLoaded, IsUnloaded};
+ghost use Rattle.std.specs.Prelude.{◌≡◌, ◌≤◌, length, Some, IfOk, IfErr};
+ghost use Rattle.outside.specs.Count.{Rose};
+ghost use Rattle.outside.specs.Store.{Store};
+ghost use Rattle.qml_ast.specs.declared.fault.LoadFault.TheVariants as load;
+ghost use Rattle.type_loader.specs.Entries.{IsSound};
+ghost use Rattle.type_loader.specs.Loads.{IsLoaded, IsToldFault, IsUnloaded};
 ghost use Rattle.type_loader.specs.Naming.{file_of};
 ghost use Rattle.type_loader.specs.Sources.{AreAll};
-ghost use Rattle.type_loader.specs.Units.{AreMadeTo, IsNotMade};
+ghost use Rattle.type_loader.specs.Units.{AreMadeTo, HasUnit, IsNotMade};
 
 use crate::cache::Cache;
 use crate::compiling::{components_of, made_all};
@@ -36,8 +40,31 @@ use std::alloc::Global;
 /// parsed; after a unit these are all.
 ///
 /// Types in other documents are those of the Qt 5 QML Reference (Defining Object Types through QML Documents).
-#[tactic(auto, using(crate::proofs::Uniting::unloaded_at))]
 pub fn load<F: Files>(
+    alloc: Global,
+    files: &mut F,
+    name: &str,
+    cache: &mut Cache,
+) -> Result<Unit, LoadFault>
+    requires { length name.now ≤ 65536 }
+    ensures held { F.held files.new ≡ F.held files.old }
+    ensures later { F.faults files.old ≤ F.faults files.new }
+    ensures loaded { IfOk result (IsLoaded (F.held files.old) cache.old cache.new files.old files.new name.now) }
+    ensures unloaded { IfErr result (IsUnloaded (F.held files.old) cache.old cache.new files.old files.new
+        (F.faults files.old) (F.faults files.new) name.now) }
+
+    // Where the files are told and the cache has what they hold.
+    ensures unit { (told : Store) → F.held files.old ≡ Some told → IsSound told cache.old → IfOk result (HasUnit told name.now) }
+    ensures fault { (told : Store) → F.held files.old ≡ Some told → IsSound told cache.old → IfErr result (IsToldFault told name.now) }
+    ensures sound { (told : Store) → F.held files.old ≡ Some told → IsSound told cache.old → IsSound told cache.new }
+    ensures read { IfErr result (λ fault. fault ≡ load.Read → Rose (F.faults files.old) (F.faults files.new)) }
+{
+    listed(alloc, files, name, cache)
+}
+
+/// The same, as far as the list of documents says it.
+#[tactic(auto, using(crate::proofs::Uniting::unloaded_at))]
+fn listed<F: Files>(
     alloc: Global,
     files: &mut F,
     name: &str,

@@ -1,7 +1,7 @@
 ghost use Rattle.std.specs.Prelude.{◌≡◌, ◌↔◌, ◌≤◌, ◌^◌, length, IsTrue, IfOk, MatchOption};
 ghost use Rattle.type_loader.specs.Naming.{file_of, IsLawful};
 
-use qml_ast::{Name, Text};
+use qml_ast::Name;
 use std::alloc::{AllocError, Global};
 
 /// What a document's file has behind its type's name.
@@ -35,5 +35,5 @@ pub(crate) fn file_name(alloc: Global, name: &str) -> Result<Name, AllocError>
 {
     let mut file = String::from_str(alloc, name)?;
     file.push_str(ENDING)?;
-    Ok(Name::from_text(Text::from_string(file)))
+    Name::new(alloc, file.as_str())
 }
