@@ -89,10 +89,12 @@ module _ {F : Type 0} (held : Option Store) (old new : Entries) (before after : 
           let told : fault ≡ load.Missing file = x.told in
           absurd cc
       unlisted (inr none) = absurd cc
+
       stopped : (root : List ℕ) (sources : List Source) → IsShown old before after root sources fault ⊎ IsRefused held old reads_before reads_after root sources fault → Rose reads_before reads_after
       stopped root sources (inl (inl x, left)) = absurd (shown_no_read root sources fault read x)
       stopped root sources (inl (inr none, left)) = absurd cc
       stopped root sources (inr x) = flaw_read held (file_of x.name) reads_before reads_after sources x.name x.why (sym x.told ∙ read) x.flaw
+
       by : IsUnlisted old new before after file fault ⊎ IsStoppedAt held old new before after reads_before reads_after file fault → Rose reads_before reads_after
       by (inl x) = unlisted x.told
       by (inr x) = stopped x.root x.stopped.sources x.stopped.why
@@ -113,6 +115,7 @@ module _ {F : Type 0} (held : Option Store) (old new : Entries) (before after : 
       unlisted : fault ≢ load.NoMemory → IsNoFile file fault ⊎ (fault ≡ load.NoMemory) → HasUnitFault files file fault
       unlisted some (inl x) = inl x
       unlisted some (inr none) = absurd (some none)
+
       why : fault ≢ load.NoMemory → fault ≢ load.Read → (root : List ℕ) (sources : List Source) → IsShown old before after root sources fault ⊎ IsRefused held old reads_before reads_after root sources fault
           → ShowsFault root sources fault ⊎ IsFlawed files root sources fault
       why some read root sources (inl (inl x, left)) = inl x
@@ -123,7 +126,9 @@ module _ {F : Type 0} (held : Option Store) (old new : Entries) (before after : 
         lawful = x.lawful;
         flaw = x.why;
         has = flaw_told held files (file_of x.name) reads_before reads_after sources x.name x.why fault told x.told some read x.flaw;
-        told = x.told })
+        told = x.told;
+      })
+
       by : fault ≢ load.NoMemory → fault ≢ load.Read → IsUnlisted old new before after file fault ⊎ IsStoppedAt held old new before after reads_before reads_after file fault → HasUnitFault files file fault
       by some read (inl x) = unlisted some x.told
       by some read (inr x) = inr (record {
@@ -132,7 +137,8 @@ module _ {F : Type 0} (held : Option Store) (old new : Entries) (before after : 
         lawful = x.lawful;
         sources = x.stopped.sources;
         read = x.stopped.listed.read files told sound;
-        why = why some read x.root x.stopped.sources x.stopped.why })
+        why = why some read x.root x.stopped.sources x.stopped.why;
+      })
 
   pub if_fault : (result : Result UnitOf LoadFault) → IfErr result (IsUnloaded held old new before after reads_before reads_after file) → (files : Store) → held ≡ Some files → IsSound files old → IfErr result (IsToldFault files file)
   if_fault (Ok unit) unloaded files told sound = tt

@@ -33,9 +33,10 @@ named_at names place (s ∷ sources) (suc k) source each at =
 named_by : (names : List (List ℕ)) (sources : List Source) (from to : List ℕ) → among (mentioned_by sources from) to ≡ true → among (fold with_mentions names sources) to ≡ true
 named_by names [] from to h = absurd (true≢false (sym h))
 named_by names (s ∷ sources) from to h =
-    elim (pointwise nat_eq from s.name) as (λ b. among (names_in_some (cond b (Some s) (source_named sources from))) to ≡ true → among (fold with_mentions (with_mentions names s) sources) to ≡ true)
-    [ true ↦ λ k. among_front (with_mentions names s) (fold with_mentions (with_mentions names s) sources) to (front_with_all (with_mentions names s) sources) (among_all_added names (names_in s) to k)
-    | false ↦ λ k. named_by (with_mentions names s) sources from to k ] h
+    elim (pointwise nat_eq from s.name) as (λ b. among (names_in_some (cond b (Some s) (source_named sources from))) to ≡ true → among (fold with_mentions (with_mentions names s) sources) to ≡ true) [
+      | true ↦ λ k. among_front (with_mentions names s) (fold with_mentions (with_mentions names s) sources) to (front_with_all (with_mentions names s) sources) (among_all_added names (names_in s) to k)
+      | false ↦ λ k. named_by (with_mentions names s) sources from to k
+    ] h
 
 -- a place in a list has something
 something_at : {A : Type 0} (xs : List A) (i : ℕ) → i < length xs → (x : A) × (slice_get xs i ≡ Some x)
@@ -59,6 +60,7 @@ closed root sources all = record { each = λ from to h. by to (stands_among (nam
         let same : here.0.name ≡ to = cc in
         subst (λ n. among (map (λ s. s.name) sources) n ≡ true) same
         (among_standing (map (λ s. s.name) sources) i here.0.name (slice_get-map (λ s. s.name) sources i ∙ ap (option_map (λ (s : Source). s.name)) here.1))
+
     by : (to : List ℕ) → ((i : ℕ) × (slice_get (names_of root sources) i ≡ Some to)) → among (map (λ s. s.name) sources) to ≡ true
     by to at =
         let within : at.0 < length (names_of root sources) = slice_get_within (names_of root sources) at.0 to at.1 in

@@ -39,7 +39,8 @@ found_first sources from = record {
   distinct = distinct_with_names [] (mentioned_by sources from) none_distinct;
   first = λ n h. among_all_added [] (mentioned_by sources from) n h;
   reached = λ n h. either n (among_with_names [] (mentioned_by sources from) n h);
-  next = λ i n m below at mentions. absurd (omega arith) }
+  next = λ i n m below at mentions. absurd (omega arith);
+}
   where
     either : (n : List ℕ) → (among [] n ≡ true) ⊎ (among (mentioned_by sources from) n ≡ true) → Reaches sources from n
     either n (inl h) = absurd (true≢false (sym h))
@@ -56,7 +57,8 @@ module _ (sources : List Source) (from : List ℕ) (found : List (List ℕ)) (co
     distinct = are.distinct;
     first = are.first;
     reached = are.reached;
-    next = λ i n m less at mentions. below_more (λ k. (n m : List ℕ) → slice_get found k ≡ Some n → among (mentioned_by sources n) m ≡ true → among found m ≡ true) count (λ k below n m at mentions. are.next k n m below at mentions) here i less n m at mentions }
+    next = λ i n m less at mentions. below_more (λ k. (n m : List ℕ) → slice_get found k ≡ Some n → among (mentioned_by sources n) m ≡ true → among found m ≡ true) count (λ k below n m at mentions. are.next k n m below at mentions) here i less n m at mentions;
+  }
     where
       here : (n m : List ℕ) → slice_get found count ≡ Some n → among (mentioned_by sources n) m ≡ true → among found m ≡ true
       here n m at mentions = absurd cc
@@ -66,21 +68,27 @@ module _ (sources : List Source) (from : List ℕ) (found : List (List ℕ)) (co
     distinct = distinct_with_names found (mentioned_by sources name) are.distinct;
     first = λ n h. longer n (are.first n h);
     reached = λ n h. either n (among_with_names found (mentioned_by sources name) n h);
-    next = λ i n m less at mentions. below_more (λ k. (n m : List ℕ) → slice_get (followed_from sources found (Some name)) k ≡ Some n → among (mentioned_by sources n) m ≡ true → among (followed_from sources found (Some name)) m ≡ true) count below here i less n m at mentions }
+    next = λ i n m less at mentions. below_more (λ k. (n m : List ℕ) → slice_get (followed_from sources found (Some name)) k ≡ Some n → among (mentioned_by sources n) m ≡ true → among (followed_from sources found (Some name)) m ≡ true) count below here i less n m at mentions;
+  }
     where
       front : IsFrontOf found (followed_from sources found (Some name))
       front = front_with_names found (mentioned_by sources name)
+
       longer : (n : List ℕ) → among found n ≡ true → among (followed_from sources found (Some name)) n ≡ true
       longer n h = among_front found (followed_from sources found (Some name)) n front h
+
       either : (n : List ℕ) → (among found n ≡ true) ⊎ (among (mentioned_by sources name) n ≡ true) → Reaches sources from n
       either n (inl h) = are.reached n h
       either n (inr h) = more name n (are.reached name (among_standing found count name at)) h
+
       back : (k : ℕ) (n : List ℕ) → k ≤ count → slice_get (followed_from sources found (Some name)) k ≡ Some n → slice_get found k ≡ Some n
       back k n below at_k =
           let within : count < length found = slice_get_within found count name at in
           stands_back found front.rest k n (omega arith) (subst (λ l. slice_get l k ≡ Some n) front.is at_k)
+
       below : (k : ℕ) → k < count → (n m : List ℕ) → slice_get (followed_from sources found (Some name)) k ≡ Some n → among (mentioned_by sources n) m ≡ true → among (followed_from sources found (Some name)) m ≡ true
       below k less n m at_k mentions = longer m (are.next k n m less (back k n (omega arith) at_k) mentions)
+
       here : (n m : List ℕ) → slice_get (followed_from sources found (Some name)) count ≡ Some n → among (mentioned_by sources n) m ≡ true → among (followed_from sources found (Some name)) m ≡ true
       here n m at_count mentions =
           let again : slice_get found count ≡ Some n = back count n (omega arith) at_count in

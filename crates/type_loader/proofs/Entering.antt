@@ -45,9 +45,11 @@ still_sound files es other document sound has = by (is_some (document_in es othe
   where
     one : (file : List ℕ) (found : Document) → (file ≡ other) × (document ≡ found) → HasDocument (get files file) found
     one file found same = subst (λ d. HasDocument (get files file) d) same.1 (subst (λ f. HasDocument (get files f) document) (sym same.0) has)
+
     in_all : (file : List ℕ) (found : Document) (b : Bool) → is_some (document_in es file) ≡ b → document_in (es ++ (other, document) ∷ []) file ≡ Some found → HasDocument (get files file) found
     in_all file found true e h = sound.each file found (sym (in_front es ((other, document) ∷ []) file e) ∙ h)
     in_all file found false e h = one file found (found_alone other file document found (sym (behind es ((other, document) ∷ []) file e) ∙ h))
+
     by : (b : Bool) → IsSound files (if b then es else es ++ (other, document) ∷ [])
     by true = sound
     by false = record { each = λ file found h. in_all file found (is_some (document_in es file)) refl h }

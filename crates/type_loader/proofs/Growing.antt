@@ -37,7 +37,8 @@ module _ {F : Type 0} (held : Option Store) (old : Entries) (before : F) (root :
     named = refl;
     counted = refl;
     listed = record { first = record { each = tt; few = omega arith }; read = λ files told sound. tt; kept = refl };
-    left = λ kept. refl }
+    left = λ kept. refl;
+  }
 
   pub not_grown_yet : (names : List (List ℕ)) (sources : List Source) → names ≡ root ∷ [] → sources ≡ [] → AreGrown held old old before before root names sources 0
   not_grown_yet names sources named none =
@@ -48,7 +49,8 @@ module _ {F : Type 0} (held : Option Store) (old : Entries) (before : F) (root :
     awaited name few at = record {
       first = grown.listed.first;
       few = subst (λ n. n < 256) (sym grown.counted) few;
-      next = subst (λ ns. slice_get ns (length sources) ≡ Some name) grown.named at }
+      next = subst (λ ns. slice_get ns (length sources) ≡ Some name) grown.named at;
+    }
 
     -- one document more is read
     pub one_more : (new : Entries) (last : F) (held' : Option Store) (name : List ℕ) (source : Source) → held' ≡ held → count < 256
@@ -61,20 +63,24 @@ module _ {F : Type 0} (held : Option Store) (old : Entries) (before : F) (root :
           named = subst (λ ns. slice_get ns (length sources) ≡ Some source.name) grown.named (at ∙ ap (λ n. Some n) (sym taken.named));
           file = taken.file;
           lawful = taken.lawful;
-          mentions = taken.mentions } in
+          mentions = taken.mentions;
+        } in
         record {
           named = ap (λ ns. with_mentions ns source) grown.named ∙ sym (fold_append with_mentions (root ∷ []) sources (source ∷ []));
           counted = longer;
           listed = record {
             first = record {
               each = next_one_more (root ∷ []) 0 sources source grown.listed.first.each (subst (λ p. IsNext (names_of root sources) p source) (sym place) next);
-              few = omega (arith, longer) };
+              few = omega (arith, longer);
+            };
             read = λ files told sound. read_one_more files sources source (grown.listed.read files told sound)
                 (taken.had.read files (same ∙ told) (subst (λ es. IsSound files es) (sym grown.listed.kept) (all_still_sound files old sources sound (grown.listed.read files told sound))));
             kept = taken.had.kept ∙ (ap (λ es. with_document es source.file source.document) grown.listed.kept
-                ∙ sym (fold_append (λ es s. with_document es s.file s.document) old sources (source ∷ []))) };
+                ∙ sym (fold_append (λ es s. with_document es s.file s.document) old sources (source ∷ [])));
+          };
           left = λ kept. let split = kept_but_one old sources source kept in
-              taken.had.left (subst (λ es. is_some (document_in es source.file) ≡ true) (sym grown.listed.kept) (all_still_kept old sources source.file split.1)) ∙ grown.left split.0 }
+              taken.had.left (subst (λ es. is_some (document_in es source.file) ≡ true) (sym grown.listed.kept) (all_still_kept old sources source.file split.1)) ∙ grown.left split.0;
+        }
 
     -- the list stops where its documents show why, or memory ran out
     pub stopped_here : (reads_before reads_after : ℕ) (fault : LoadFault) → IsShown old before after root sources fault → IsStopped held old now before after reads_before reads_after root fault
@@ -93,12 +99,15 @@ module _ {F : Type 0} (held : Option Store) (old : Entries) (before : F) (root :
         barred b = record {
           sources = sources;
           listed = record { first = grown.listed.first; read = grown.listed.read; kept = b.same ∙ grown.listed.kept };
-          why = inl (inl (inr (inl (record { name = name; awaited = awaited name few at; unlawful = b.unlawful; told = b.told }))), λ kept. b.left ∙ grown.left kept) }
+          why = inl (inl (inr (inl (record { name = name; awaited = awaited name few at; unlawful = b.unlawful; told = b.told }))), λ kept. b.left ∙ grown.left kept);
+        }
+
         absent : document_in now (file_of name) ≡ None → (o : Option Document) → document_in old (file_of name) ≡ o → o ≡ None
         absent none None e = refl
         absent none (Some document) e =
             let kept : is_some (document_in now (file_of name)) ≡ true = subst (λ es. is_some (document_in es (file_of name)) ≡ true) (sym grown.listed.kept) (all_still_kept old sources (file_of name) (ap is_some e)) in
             absurd (true≢false (sym kept ∙ ap is_some none))
+
         faulty : IsFaulty held' now new reads_before reads_after sources name fault → IsStopped held old new before last first_reads reads_after root fault
         faulty f = record {
           sources = sources;
@@ -110,15 +119,20 @@ module _ {F : Type 0} (held : Option Store) (old : Entries) (before : F) (root :
             absent = absent f.not_had.absent (document_in old (file_of name)) refl;
             why = f.why;
             flaw = flaw_before held held' (file_of name) first_reads reads_before reads_after f.why same earlier f.not_had.flaw;
-            told = f.told }) }
+            told = f.told;
+          });
+        }
+
         ran_out : fault ≡ load.NoMemory → RanOut held' now new after last name → IsStopped held old new before last first_reads reads_after root fault
         ran_out none (inl nothing) = record {
           sources = sources;
           listed = record { first = grown.listed.first; read = grown.listed.read; kept = nothing.0 ∙ grown.listed.kept };
-          why = inl (inr none, λ kept. nothing.1 ∙ grown.left kept) }
+          why = inl (inr none, λ kept. nothing.1 ∙ grown.left kept);
+        }
         ran_out none (inr had) =
             let more = one_more new last held' name had.0 same few at had.1 in
             record { sources = sources ++ had.0 ∷ []; listed = more.listed; why = inl (inr none, more.left) }
+
         by : IsBarred now new after last sources name fault ⊎ (IsFaulty held' now new reads_before reads_after sources name fault ⊎ ((fault ≡ load.NoMemory) × RanOut held' now new after last name)) → IsStopped held old new before last first_reads reads_after root fault
         by (inl b) = barred b
         by (inr (inl f)) = faulty f
@@ -133,12 +147,15 @@ module _ {F : Type 0} (held : Option Store) (old : Entries) (before : F) (root :
 
     -- or is too long
     pub too_many : (reads_before reads_after : ℕ) → count ≡ 256 → length sources < length names → IsStopped held old now before after reads_before reads_after root load.TooMany
-    too_many reads_before reads_after full more = stopped_here reads_before reads_after load.TooMany
-        (inl (inl (record {
-          first = grown.listed.first;
-          full = grown.counted ∙ full;
-          more = subst (λ ns. 256 < length ns) grown.named (subst (λ n. n < length names) (grown.counted ∙ full) more);
-          told = refl })), grown.left)
+    too_many reads_before reads_after full more = stopped_here reads_before reads_after load.TooMany (
+      inl (inl (record {
+        first = grown.listed.first;
+        full = grown.counted ∙ full;
+        more = subst (λ ns. 256 < length ns) grown.named (subst (λ n. n < length names) (grown.counted ∙ full) more);
+        told = refl;
+      })),
+      grown.left,
+    )
 
     -- the same, where what was taken is said of the longer list
     pub grown_by : (new : Entries) (last : F) (held' : Option Store) (name : List ℕ) (more : List (List ℕ)) (longer : List Source) → held' ≡ held → count < 256

@@ -30,6 +30,7 @@ mentioned names (s ∷ sources) n h = by (mentioned (with_mentions names s) sour
     first : (among names n ≡ true) ⊎ (among (names_in s) n ≡ true) → (among names n ≡ true) ⊎ (is_some (first_mention (s ∷ sources) n) ≡ true)
     first (inl old) = inl old
     first (inr new) = inr (here s (first_mention sources n) (mention_in s n) (found_among s.mentions n new))
+
     by : (among (with_mentions names s) n ≡ true) ⊎ (is_some (first_mention sources n) ≡ true) → (among names n ≡ true) ⊎ (is_some (first_mention (s ∷ sources) n) ≡ true)
     by (inl h) = first (among_with_names names (names_in s) n h)
     by (inr h) = inr (there s (first_mention sources n) (mention_in s n) h)

@@ -95,6 +95,7 @@ among_with_name ns m n h = by (among ns m) h
     last : (among ns n ≡ true) ⊎ (among (m ∷ []) n ≡ true) → (among ns n ≡ true) ⊎ (n ≡ m)
     last (inl old) = inl old
     last (inr new) = inr (only_name n m new)
+
     by : (b : Bool) → among (if b then ns else ns ++ m ∷ []) n ≡ true → (among ns n ≡ true) ⊎ (n ≡ m)
     by true h = inl h
     by false h = last (among_either ns (m ∷ []) n h)
@@ -117,6 +118,7 @@ among_with_names ns (m ∷ more) n h = by (among_with_names (with_name ns m) mor
     first : (among ns n ≡ true) ⊎ (n ≡ m) → (among ns n ≡ true) ⊎ ((pointwise nat_eq n m || among more n) ≡ true)
     first (inl old) = inl old
     first (inr same) = inr (ap (λ b. b || among more n) (subst (λ k. pointwise nat_eq n k ≡ true) same (name_itself n)))
+
     by : (among (with_name ns m) n ≡ true) ⊎ (among more n ≡ true) → (among ns n ≡ true) ⊎ ((pointwise nat_eq n m || among more n) ≡ true)
     by (inl h) = first (among_with_name ns m n h)
     by (inr h) = inr (ap (λ b. pointwise nat_eq n m || b) h ∙ or_right (pointwise nat_eq n m))
@@ -135,6 +137,7 @@ stands_among (m ∷ ns) n h = by (pointwise nat_eq n m) refl h (λ k. stands_amo
   where
     next : ((i : ℕ) × (slice_get ns i ≡ Some n)) → (i : ℕ) × (slice_get (m ∷ ns) i ≡ Some n)
     next at = (suc at.0, at.1)
+
     by : (b : Bool) → pointwise nat_eq n m ≡ b → (b || among ns n) ≡ true → (among ns n ≡ true → (i : ℕ) × (slice_get ns i ≡ Some n)) → (i : ℕ) × (slice_get (m ∷ ns) i ≡ Some n)
     by true e h later = (0, ap (λ k. Some k) (sym (same_name n m e)))
     by false e h later = next (later h)

@@ -144,6 +144,7 @@ module _ (documents : (bytes : List ℕ) (a b : Document) → Spells bytes a →
       both : u ≡ v → IsFrontOf us vs ⊎ IsFrontOf vs us → IsFrontOf (u ∷ us) (v ∷ vs) ⊎ IsFrontOf (v ∷ vs) (u ∷ us)
       both same (inl f) = inl (record { rest = f.rest; is = ap (λ s. s ∷ vs) (sym same) ∙ ap (λ l. u ∷ l) f.is })
       both same (inr f) = inr (record { rest = f.rest; is = ap (λ s. s ∷ us) same ∙ ap (λ l. v ∷ l) f.is })
+
       by : u ≡ v → (u ≡ v → IsFrontOf us vs ⊎ IsFrontOf vs us) → IsFrontOf (u ∷ us) (v ∷ vs) ⊎ IsFrontOf (v ∷ vs) (u ∷ us)
       by same later = both same (later same)
 

@@ -37,16 +37,32 @@ module _ {F : Type 0} (held : Option Store) (old new : Entries) (before after : 
       by (inl none) (inl t) = halted_at_once (t ∙ ap (fault_of sources name) none.0) none.1 none.2
       by (inl none) (inr t) = halted_at_once t none.1 none.2
       by (inr not_had) (inl t) = record { is = inr (inl (record { lawful = lawful; why = why; not_had = not_had; told = t })) }
-      by (inr not_had) (inr t) = record { is = inr (inl (record {
-        lawful = lawful;
-        why = flaw.NoMemory;
-        not_had = record { absent = not_had.absent; same = not_had.same; flaw = tt };
-        told = t })) }
+      by (inr not_had) (inr t) = record {
+        is = inr (inl (record {
+          lawful = lawful;
+          why = flaw.NoMemory;
+          not_had = record { absent = not_had.absent; same = not_had.same; flaw = tt };
+          told = t;
+        }));
+      }
 
   -- memory ran out once the document was had
   pub halted_behind : (file : List ℕ) (document : Document) → file ≡ file_of name → IsLawful (file_of name) → IsHad held old new before after file document → fault ≡ load.NoMemory → Halted
-  halted_behind file document is lawful had t = record { is = inr (inr (t, inr (source_with name (file_of name) document, record {
-    named = refl; file = refl; lawful = lawful; mentions = refl; had = subst (λ f. IsHad held old new before after f document) is had }))) }
+  halted_behind file document is lawful had t = record {
+    is = inr (inr (
+      t,
+      inr (
+        source_with name (file_of name) document,
+        record {
+          named = refl;
+          file = refl;
+          lawful = lawful;
+          mentions = refl;
+          had = subst (λ f. IsHad held old new before after f document) is had;
+        },
+      ),
+    ));
+  }
 
 -- memory ran out, if it did, once the document was had
 pub if_halted : {F : Type 0} (held : Option Store) (old new : Entries) (before after : F) (reads_before reads_after : ℕ) (sources : List Source) (name file : List ℕ) (document : Document)

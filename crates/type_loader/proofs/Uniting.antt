@@ -70,7 +70,7 @@ if_unloaded held old new before after reads_before reads_after file root other s
 if_unloaded held old new before after reads_before reads_after file root other sources listed (Err fault) named lawful same same_list gathered not_made =
     unloaded_at held old new before after reads_before reads_after file root fault named lawful
     (stopped_by_unit held old new before after reads_before reads_after root sources fault
-      (subst (λ r. AreGathered held old new before after r sources) same gathered) (subst (λ ss. IsNotMade root ss fault) same_list not_made))
+    (subst (λ r. AreGathered held old new before after r sources) same gathered) (subst (λ ss. IsNotMade root ss fault) same_list not_made))
 
 -- What is made stays made
 
@@ -78,7 +78,7 @@ in_front : (made rest : List Made) (name : List ℕ) → is_some (component_name
 in_front [] rest name h = absurd (true≢false (sym h))
 in_front (m ∷ made) rest name h =
     elim (pointwise nat_eq name m.name) as (λ b. is_some (option_map (λ m. m.component) (cond b (Some m) (find (λ m. pointwise nat_eq name m.name) made))) ≡ true
-        → is_some (option_map (λ m. m.component) (cond b (Some m) (find (λ m. pointwise nat_eq name m.name) (made ++ rest)))) ≡ true)
+    → is_some (option_map (λ m. m.component) (cond b (Some m) (find (λ m. pointwise nat_eq name m.name) (made ++ rest)))) ≡ true)
     [ true ↦ λ _. refl | false ↦ λ k. in_front made rest name k ] h
 
 at_end : (made : List Made) (m : Made) → is_some (component_named (made ++ m ∷ []) m.name) ≡ true

@@ -59,7 +59,11 @@ fn make(
 }
 
 /// The component type of a document over what is known.
-fn compiled(alloc: Global, source: &Source, known: &Known) -> Result<Shared<ComponentType>, LoadFault>
+fn compiled(
+    alloc: Global,
+    source: &Source,
+    known: &Known,
+) -> Result<Shared<ComponentType>, LoadFault>
     ensures made { IfOk result (λ component. compiled source.now.file source.now.document known.now ≡ Ok component) }
     ensures refused { IfErr result (λ fault. fault ≢ load.NoMemory → IsFaultOf source.now.file (compiled source.now.file source.now.document known.now) fault) }
 {

@@ -89,12 +89,7 @@ fn listed<F: Files>(
 
 /// The unit of the documents of a list, or the first fault of them together.
 #[tactic(auto, using(crate::proofs::Uniting::not_made_by_cycle, crate::proofs::Uniting::not_made_by_fault, crate::proofs::Uniting::not_made_by_memory))]
-fn unit_of(
-    alloc: Global,
-    root: &Name,
-    file: Name,
-    sources: &[Source],
-) -> Result<Unit, LoadFault>
+fn unit_of(alloc: Global, root: &Name, file: Name, sources: &[Source]) -> Result<Unit, LoadFault>
     requires all { AreAll root.now sources.now }
     requires file { file ≡ file_of root.now }
     ensures made { IfOk result (AreMadeTo root.now sources.now) }

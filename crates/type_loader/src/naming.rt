@@ -11,9 +11,7 @@ const ENDING: &str = ".qml";
 pub(crate) fn has_lawful_file(name: &[u8]) -> bool
     ensures { IsTrue result ↔ IsLawful (file_of name.now) }
 {
-    !name.is_empty()
-        && name.len() <= 251
-        && name.iter().all(|byte| *byte != b'/' && *byte != 0)
+    !name.is_empty() && name.len() <= 251 && name.iter().all(|byte| *byte != b'/' && *byte != 0)
 }
 
 /// The type of that file, or none where no document can have that name.

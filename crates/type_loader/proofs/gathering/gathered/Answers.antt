@@ -12,7 +12,7 @@ pub loop-count-init : goal.loop-count-init
 loop-count-init g c = record {
   held = search rules;
   later = omega arith;
-  grown = not_grown_yet _ _ _ _ c.add.new.self c.new-sources.result (search rules) (search rules)
+  grown = not_grown_yet _ _ _ _ c.add.new.self c.new-sources.result (search rules) (search rules);
 }
 
 pub returns-in_default-clause-gathered : goal.returns-in_default-clause-gathered
@@ -34,8 +34,8 @@ returns-in_err-grow-clause-stopped g c =
     let few : c.loop-count.count < 256 = omega arith in
     if_stopped _ _ _ _ _ _ _ _ _ c.loop-count.invariant.grown c.grow.new.cache c.grow.new.files _ _ c.in_err-grow.field-0.0 c.from_residual-in_err-grow.result (search rules)
     (stopped_at _ _ _ _ _ _ _ _ _ c.loop-count.invariant.grown c.grow.new.cache c.grow.new.files (g.F.Files.held c.loop-count.files)
-      _ (g.F.Files.faults c.loop-count.files) _ c.in_ok-name.name c.in_err-grow.field-0.0 c.loop-count.invariant.held c.loop-count.invariant.later few
-      (at_count _ _ _ _ _ _ _ _ _ c.loop-count.invariant.grown _ at) c.in_err-grow.ensures.halted)
+    _ (g.F.Files.faults c.loop-count.files) _ c.in_ok-name.name c.in_err-grow.field-0.0 c.loop-count.invariant.held c.loop-count.invariant.later few
+    (at_count _ _ _ _ _ _ _ _ _ c.loop-count.invariant.grown _ at) c.in_err-grow.ensures.halted)
 
 pub loop-count-preserved : goal.loop-count-preserved
 loop-count-preserved g c =
@@ -45,7 +45,7 @@ loop-count-preserved g c =
       held = search rules;
       later = search rules;
       grown = grown_by _ _ _ _ _ _ _ _ _ c.loop-count.invariant.grown c.grow.new.cache c.grow.new.files (g.F.Files.held c.loop-count.files) c.in_ok-name.name
-        c.grow.new.names c.grow.new.sources c.loop-count.invariant.held few (at_count _ _ _ _ _ _ _ _ _ c.loop-count.invariant.grown _ at) (c.in_ok-grow.ensures.grown)
+          c.grow.new.names c.grow.new.sources c.loop-count.invariant.held few (at_count _ _ _ _ _ _ _ _ _ c.loop-count.invariant.grown _ at) (c.in_ok-grow.ensures.grown);
     }
 
 pub returns-then-len-gt-LIST_LIMIT-clause-stopped : goal.returns-then-len-gt-LIST_LIMIT-clause-stopped
