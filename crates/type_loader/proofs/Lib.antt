@@ -1,0 +1,14 @@
+pub mod Keeping
+pub mod Taking
+pub mod Listing
+pub mod Entering
+pub mod Growing
+pub mod NameLists
+pub mod Mentioning
+pub mod Making
+pub mod Posting
+pub mod Cycling
+pub mod Closing
+pub mod Uniting
+pub mod Once
+pub mod Answering
