@@ -332,6 +332,41 @@ const ALONE: &[(&str, &str)] = &[
         "Item { property int a: Item { foo: 1 } }",
         "WrongLiteral 1:24",
     ),
+    // Longer texts.
+    (
+        "\nItem { anchors.fill: parent; anchors { margins: 1; fill: parent } }",
+        "DuplicateName 2:52",
+    ),
+    (
+        "\nItem { a: \"x\"; property foo a; b: 1 }",
+        "UnknownType 2:25",
+    ),
+    (
+        "\nItem { property var v: Item { } property Item i: Item { } x: Item { } }",
+        "WrongLiteral 2:62",
+    ),
+    (
+        "\nItem { Item { childrenRect.width: \"a\" } x: \"a\" }",
+        "ReadOnly 2:15",
+    ),
+    (
+        "\nItem { x: -1; visible: -1; y: (('a')) }",
+        "WrongLiteral 2:33",
+    ),
+    ("Item { width: null }", "WrongLiteral 1:15"),
+    ("Item { y: true; B { } }", "WrongLiteral 1:11"),
+    (
+        "Rectangle {\n    parent: null\n    id: o0\n    property int e: 22; property bool on: false\n    width: 32; height: 44; color: \"lime\"\n    Rectangle {\n        id: o1\n        property var a: 21; x: 6; y: 18; height: 17; color: \"navy\"\n        Item { id: o2; property int b: 37; property real d: 25; x: 11; y: 16; width: 6 }\n        Rectangle { id: o4; x: 16; y: 0; width: 18; height: 18; color: \"black\" }\n    }\n    Item { id: o3; property int e: 25; x: 1; y: 19 }\n}\n",
+        "ReadOnly 2:5",
+    ),
+    (
+        "Rectangle {\n    color: 5\n    id: o0\n    property int c: 17; property bool on: true\n    property string name: \"red\"\n    color: \"red\"\n    Rectangle { id: o1; x: 6; width: 6; height: 7; color: \"#f0a\" }\n}\n",
+        "WrongLiteral 2:12",
+    ),
+    (
+        "Item {\n    id: o0; property int e\n    property var name: \"é\"; y: 13; width: 52\n    Item {\n    signal s(int n, int n)\n        id: o1\n        property real d: 28\n    }\n    Item { id: o4; property int d: 38 }\n}\n",
+        "DuplicateName 5:25",
+    ),
     // Of two faults the first by its place.
     ("Item { Foo { } foo: 1 }", "UnknownType 1:8"),
     ("Item { foo: 1; Foo { } }", "UnknownProperty 1:8"),
