@@ -46,7 +46,7 @@ fn answer(alloc: Global, first: &str, text: &str) -> Result<String, AllocError> 
     }
 }
 
-const ALONE: &[(&str, &str)] = &[
+const TYPES_AND_PATHS: &[(&str, &str)] = &[
     // The types of objects, of properties and of parameters.
     ("Foo { }", "UnknownType 1:1"),
     ("Item { Foo { } }", "UnknownType 1:8"),
@@ -99,6 +99,9 @@ const ALONE: &[(&str, &str)] = &[
     ),
     ("Item { foo { } }", "ok"),
     ("QtObject { objectName: \"a\" }", "ok"),
+];
+
+const HANDLERS: &[(&str, &str)] = &[
     // Handlers.
     ("Item { onFoo: { } }", "UnknownProperty 1:8"),
     ("Item { signal foo; onFoo: { } }", "ok"),
@@ -175,6 +178,9 @@ const ALONE: &[(&str, &str)] = &[
     ),
     ("Component { Item { foo: 1 } }", "UnknownProperty 1:20"),
     ("Component { x: 1; Item { } }", "UnknownProperty 1:13"),
+];
+
+const IDS: &[(&str, &str)] = &[
     // Ids.
     ("Item { id: A }", "BadId 1:12"),
     ("Item { Item { id: B } id: a }", "BadId 1:19"),
@@ -259,6 +265,9 @@ const ALONE: &[(&str, &str)] = &[
         "Item { property int border; property int start; signal clicked; signal xChanged; property var states; property int Math }",
         "ok",
     ),
+];
+
+const INITIALISED: &[(&str, &str)] = &[
     // Paths that are initialised twice.
     ("Item { x: 1; x: 2 }", "DuplicateName 1:14"),
     ("Item { x: 1; y: 2; x: 3; y: 4 }", "DuplicateName 1:20"),
@@ -332,6 +341,9 @@ const ALONE: &[(&str, &str)] = &[
         "Item { property int a: Item { foo: 1 } }",
         "WrongLiteral 1:24",
     ),
+];
+
+const LONGER: &[(&str, &str)] = &[
     // Longer texts.
     (
         "\nItem { anchors.fill: parent; anchors { margins: 1; fill: parent } }",
@@ -688,8 +700,32 @@ fn differing(alloc: Global, rows: &[(&str, &str)]) -> Result<String, AllocError>
 }
 
 #[test]
-fn documents_by_themselves(rt: HostRuntime) -> Result<(), Fail> {
-    assert_eq!(rt; differing(rt.alloc(), ALONE)?.as_str(), "");
+fn types_and_paths(rt: HostRuntime) -> Result<(), Fail> {
+    assert_eq!(rt; differing(rt.alloc(), TYPES_AND_PATHS)?.as_str(), "");
+    Ok(())
+}
+
+#[test]
+fn handlers_and_components(rt: HostRuntime) -> Result<(), Fail> {
+    assert_eq!(rt; differing(rt.alloc(), HANDLERS)?.as_str(), "");
+    Ok(())
+}
+
+#[test]
+fn ids_and_names(rt: HostRuntime) -> Result<(), Fail> {
+    assert_eq!(rt; differing(rt.alloc(), IDS)?.as_str(), "");
+    Ok(())
+}
+
+#[test]
+fn initialisers(rt: HostRuntime) -> Result<(), Fail> {
+    assert_eq!(rt; differing(rt.alloc(), INITIALISED)?.as_str(), "");
+    Ok(())
+}
+
+#[test]
+fn longer_documents_and_first_faults(rt: HostRuntime) -> Result<(), Fail> {
+    assert_eq!(rt; differing(rt.alloc(), LONGER)?.as_str(), "");
     Ok(())
 }
 
