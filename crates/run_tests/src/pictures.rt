@@ -34,6 +34,15 @@ fn one_picture_in_many_spellings(rt: HostRuntime) -> Result<(), Fail> {
     Ok(())
 }
 
+/// The image of two red pixels, twice.
+fn is_twice(written: &[u8]) -> bool {
+    if written.len() != 2 * IMAGE {
+        return false;
+    }
+    let (first, second) = written.split_at(IMAGE);
+    is_two_red_pixels(first) && is_two_red_pixels(second)
+}
+
 #[test]
 fn two_frames_are_twice_the_image(rt: HostRuntime) -> Result<(), Fail> {
     let given = Given {
@@ -43,11 +52,7 @@ fn two_frames_are_twice_the_image(rt: HostRuntime) -> Result<(), Fail> {
         room: 2 * IMAGE,
     };
     let outcome = outcome_of(rt.alloc(), &given)?;
-    let written = outcome.frames.contents();
-    let is_whole = written.len() == 2 * IMAGE
-        && is_two_red_pixels(&written[..IMAGE])
-        && is_two_red_pixels(&written[IMAGE..]);
-    assert!(rt; is_whole);
+    assert!(rt; is_twice(outcome.frames.contents()));
     Ok(())
 }
 
@@ -80,6 +85,17 @@ const NESTED: &str = r##"Rectangle { width: 3; height: 2; color: "#0000ff";
         Rectangle { x: 1; width: 1; height: 1; color: "#000000" } }
     Rectangle { width: 1; height: 1 } }"##;
 
+/// The first pixels of the first two rows of the nested rectangles.
+fn has_nested_rows(image: &[u8]) -> bool {
+    if image.len() != IMAGE {
+        return false;
+    }
+    let first = &image[15..27];
+    let second = &image[1935..1947];
+    first == b"\xff\xff\xff\x00\x00\xff\x00\x00\xff\xff\xff\xff".as_slice()
+        && second == b"\x00\x00\xff\x00\xff\x00\x00\x00\x00\x00\xff\x00".as_slice()
+}
+
 #[test]
 fn children_move_with_their_parents(rt: HostRuntime) -> Result<(), Fail> {
     let given = Given {
@@ -89,11 +105,6 @@ fn children_move_with_their_parents(rt: HostRuntime) -> Result<(), Fail> {
         room: IMAGE,
     };
     let outcome = outcome_of(rt.alloc(), &given)?;
-    let image = outcome.frames.contents();
-    let is_first_row = image[15..].starts_with(b"\xff\xff\xff\x00\x00\xff\x00\x00\xff\xff\xff\xff");
-    let is_second_row = image[1935..].starts_with(
-        b"\x00\x00\xff\x00\xff\x00\x00\x00\x00\x00\xff\x00\x00\xff\x00",
-    );
-    assert!(rt; image.len() == IMAGE && is_first_row && is_second_row);
+    assert!(rt; has_nested_rows(outcome.frames.contents()));
     Ok(())
 }
