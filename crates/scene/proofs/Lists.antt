@@ -1,5 +1,6 @@
 -- Lists of items: what is among them, and what is left without one.
 use Rattle.std.proofs.Common.{◌≡◌, ◌≢◌, ◌⊎◌, ⊎_elim, inl, inr, ℕ, zero, suc, Bool, true, false, cond, not, ◌||◌, eqb, List, [], ◌∷◌, ◌++◌, map, Option, Some, None, option_map, refl, ap, sym, ◌∙◌, arith, eq-eqb}
+use Rattle.std.specs.Prelude.{IfSome}
 use Rattle.std.specs.List.{slice_get, remove, list_any, filter}
 use Rattle.std.proofs.lemmas.Option.{none-some, same_Some}
 use Rattle.std.proofs.lemmas.Bool.{cases_eq}
@@ -85,3 +86,8 @@ left_there (x ∷ xs) s place t e =
 pub marked_there : (xs : List ℕ) (s place t : ℕ) (b : Bool) → slice_get (cond b xs (xs ++ s ∷ [])) place ≡ Some t → ((j : ℕ) × (slice_get xs j ≡ Some t)) ⊎ (t ≡ s)
 marked_there xs s place t true e = inl (place, e)
 marked_there xs s place t false e = pushed_there xs s place t e
+
+-- what stands at a place is in the list
+pub there_at : (xs : List ℕ) (place : ℕ) (o : Option ℕ) → o ≡ slice_get xs place → IfSome o (λ s. (j : ℕ) × (slice_get xs j ≡ Some s))
+there_at xs place None e = tt
+there_at xs place (Some s) e = (place, sym e)

@@ -196,6 +196,7 @@ impl Scene {
     /// The first dirty item, or None where none is dirty.
     pub fn first_dirty(&self) -> Option<u64>
         ensures first { result ≡ slice_get self.now.dirty 0 }
+        ensures dirty { IfSome result (IsDirty self.now) }
         ensures item { IfSome result (λ serial. IsSome (map.get self.now.items serial)) }
         ensures apart { IsApart self.now.dirty }
     {
@@ -209,6 +210,7 @@ impl Scene {
         // Wherever the given one stands.
         ensures next { (place : ℕ) → slice_get self.now.dirty place ≡ Some serial
             → result ≡ slice_get self.now.dirty (place + 1) }
+        ensures dirty { IfSome result (IsDirty self.now) }
         ensures item { IfSome result (λ serial. IsSome (map.get self.now.items serial)) }
         ensures apart { IsApart self.now.dirty }
     {
