@@ -1,0 +1,6 @@
+mod Slots
+mod Placing
+mod Chained
+mod Growing
+mod Forests
+mod Keeping
