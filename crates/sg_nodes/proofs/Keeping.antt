@@ -50,6 +50,13 @@ module _ {nodes : Slab Node} {links : Chains} {root : Option ℕ} {spare count :
   pub childless : (slot : ℕ) → get nodes slot ≡ None → cells_in links.lists slot ≡ []
   childless slot none = no_elements (cells_in links.lists slot) (λ x e. let no : false ≡ true = ap is_some (sym none) ∙ held.forest.parent_live slot 0 x e in cc)
 
+  -- a slot without a node is no child, and not the root
+  pub no_parent : (slot : ℕ) → get nodes slot ≡ None → (parent : ℕ) → ¬ IsChild f parent slot
+  no_parent slot none parent is = let no : false ≡ true = ap is_some (sym none) ∙ held.forest.child_live parent is.0 slot is.1 in cc
+
+  pub not_root : (slot : ℕ) → get nodes slot ≡ None → root ≢ Some slot
+  not_root slot none e = let no : false ≡ true = ap is_some (sym none) ∙ held.forest.root_live slot e in cc
+
   -- a node is made
   made_is : (after : Slab Node) (slot : ℕ) (node : Node) → Updates nodes after slot (Some node)
       → forest_of (stored after links root (spare - 1)) ≡ record f { node = put f.node slot (Some node); spare = spare - 1 }

@@ -4,3 +4,4 @@ mod Chained
 mod Growing
 mod Forests
 mod Keeping
+pub mod Callers

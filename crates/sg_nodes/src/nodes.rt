@@ -95,6 +95,8 @@ impl Nodes {
           spare = self.old.spare - 1;
         } }
         ensures childless { (forest_of self.old).children result.slot ≡ [] }
+        ensures no_parent { (parent : ℕ) → ¬ IsChild (forest_of self.old) parent result.slot }
+        ensures not_root { self.old.root ≢ Some result.slot }
         ensures forest { IsForest (forest_of self.new) }
     {
         self.spare -= 1;
