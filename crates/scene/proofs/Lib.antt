@@ -1,0 +1,5 @@
+mod Lists
+mod Cells
+mod Maps
+mod Storing
+mod Held

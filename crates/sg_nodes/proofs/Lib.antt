@@ -1,0 +1,7 @@
+mod Slots
+mod Placing
+mod Chained
+mod Growing
+mod Forests
+mod Keeping
+pub mod Callers

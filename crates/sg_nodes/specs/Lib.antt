@@ -1,0 +1,4 @@
+pub mod Bodies
+pub mod Forest
+pub mod Numbers
+pub mod Stored
