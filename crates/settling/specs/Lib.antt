@@ -1,0 +1,6 @@
+pub mod Runs
+pub mod Cells
+pub mod Spaces
+pub mod Settling
+pub mod Holding
+pub mod Evaluations
