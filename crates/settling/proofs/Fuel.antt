@@ -41,11 +41,11 @@ module _ {S P V F : Type 0} (space : Space S P V F) where
           omega arith
       by false e b rest = let others = rest (rw e at b) in let here = h q in omega arith
 
-  fresh_weight : S → P → ℕ
+  abbrev pub fresh_weight : S → P → ℕ
   fresh_weight s p = cond (is_fresh (space.at s p)) 1 0
 
   -- how many of the places weren't visited
-  pub fresh_count : List P → S → ℕ
+  abbrev pub fresh_count : List P → S → ℕ
   fresh_count places s = total (fresh_weight s) places
 
   count_step : (b c : Bool) → (b ≡ false → c ≡ false) → cond c 1 0 ≤ cond b 1 0
@@ -131,13 +131,13 @@ module _ {S P V F : Type 0} (space : Space S P V F) (tree : P → Run P V F) whe
   entered_is (suspended k) e evaluated h = (k.value, done (ap clean e) refl)
 
   -- visits by this function are visits, while no more places than these are fresh
-  AreVisits : List P → ℕ → (P → S → S) → Type 0
+  abbrev pub AreVisits : List P → ℕ → (P → S → S) → Type 0
   AreVisits places most visited =
       (q : P) (s : S) → Covers space places s → fresh_count space places s ≤ most → (v : V) × Visits space tree s q v (visited q s)
 
   run_is : (places : List P) (most : ℕ) (visited : P → S → S) → AreVisits places most visited → (p : P) (r : Run P V F) (s : S)
       → Covers space places s → fresh_count space places s ≤ most → is_open (space.at s p) ≡ true → Runs space tree p r s (run space visited p r s)
-  unfolding run AreVisits
+  unfolding run
   run_is places most visited h p (gives v) s covers few o = controlled_is (space.at s p) refl o (λ k. space.put s p (active v)) (λ k e. ends k v e refl refl)
   run_is places most visited h p (faults f) s covers few o =
       controlled_is (space.at s p) refl o (λ k. space.put s p (marked k.value f)) (λ k e. fails k f e refl refl)
@@ -153,7 +153,7 @@ module _ {S P V F : Type 0} (space : Space S P V F) (tree : P → Run P V F) whe
       (λ k e. goes k q go (value_of (space.at (visited q s) q)) (visited q s) e refl there rest)
 
   pub visit_is : (places : List P) (most : ℕ) → AreVisits places most (visit space tree most)
-  unfolding visit AreVisits
+  unfolding visit
   visit_is places zero q s covers few = entered_is (space.at s q) refl (λ m. m) (λ k e. let falls = count_begun space places s q k covers e in absurd (omega arith))
   visit_is places (suc most) q s covers few =
       entered_is (space.at s q) refl (run space (visit space tree most) q (tree q))
@@ -165,7 +165,7 @@ module _ {S P V F : Type 0} (space : Space S P V F) (tree : P → Run P V F) whe
 
   visits_are : (places : List P) (most : ℕ) (ps : List P) (s : S) → Covers space places s → fresh_count space places s ≤ most
       → Settles space tree ps s (visits space tree most ps s)
-  unfolding visits AreVisits
+  unfolding visits
   visits_are places most [] s covers few = none refl refl
   visits_are places most (p ∷ ps) s covers few =
       let one = visit_is places most p s covers few in
@@ -179,22 +179,22 @@ module _ {S P V F : Type 0} (space : Space S P V F) (tree : P → Run P V F) whe
   unfolding settled
   settled_is places s covers =
       visits_are places (length places) places s covers
-      (total_most (λ q. cond (is_fresh (space.at s q)) 1 0) 1 (λ q. count_step (true) (is_fresh (space.at s q)) (λ h. cc)) places)
+      (total_most (λ q. cond (is_fresh (space.at s q)) 1 0) 1 (λ q. count_step space true (is_fresh (space.at s q)) (λ h. cc)) places)
 
-  settles_one : {ps qs : List P} {s m t u : S} (p : P) → ps ≡ p ∷ qs → ((w : V) (n : S) → Visits space tree s p w n → m ≡ n)
+  settles_one : {ps : List P} {s m t u : S} (p : P) (qs : List P) → ps ≡ p ∷ qs → ((w : V) (n : S) → Visits space tree s p w n → m ≡ n)
       → ((x : S) → Settles space tree qs m x → t ≡ x) → Settles space tree ps s u → t ≡ u
-  settles_one p e one others (none g i) = cc
-  settles_one {m = m} {u = u} p e one others (more x xs w n g visit rest) =
+  settles_one p qs e one others (none g i) = cc
+  settles_one {s = s} {m = m} {u = u} p qs e one others (more x xs w n g visited rest) =
       let place : x ≡ p = cc in
-      let left : xs ≡ _ = cc in
-      let state = one w n (subst (λ (y : P). Visits space tree _ y w n) place visit) in
-      others u (subst (λ (y : S). Settles space tree _ y u) (sym state) (subst (λ (y : List P). Settles space tree y n u) left rest))
+      let left : xs ≡ qs = cc in
+      let state = one w n (subst (λ (y : P). Visits space tree s y w n) place visited) in
+      others u (subst (λ (y : S). Settles space tree qs y u) (sym state) (subst (λ (y : List P). Settles space tree y n u) left rest))
 
   -- a settle leads to one state
   pub settles_once : {ps : List P} {s t : S} → Settles space tree ps s t → (u : S) → Settles space tree ps s u → t ≡ u
   settles_once (none e i) u (none g j) = i ∙ sym j
   settles_once (none e i) u (more x xs w n g visit rest) = cc
-  settles_once (more p qs v m e visit rest) u h = settles_one p e (λ w n x. (visits_once space tree visit w n x).1) (settles_once rest) h
+  settles_once (more p qs v m e visited rest) u h = settles_one p qs e (λ w n x. (visits_once space tree visited w n x).1) (settles_once rest) h
 
   pub settles_settled : {places : List P} {s t : S} → Covers space places s → Settles space tree places s t → t ≡ settled space tree places s
   settles_settled {places = places} {s = s} covers h = settles_once h (settled space tree places s) (settled_is places s covers)

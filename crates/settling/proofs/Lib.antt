@@ -5,3 +5,6 @@ pub mod Once
 pub mod Resumed
 pub mod Fulfilled
 pub mod Fuel
+pub mod Outcome
+pub mod Calls
+pub mod Unwinding

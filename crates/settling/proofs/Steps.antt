@@ -1,6 +1,6 @@
 -- What the steps of a place keep.
 use Rattle.std.proofs.Common.{◌≡◌, Bool, true, false, Option, Some, None, refl, sym, ap, subst, ◌∙◌}
-use Rattle.settling.specs.Cells.{Kept, Cell, plain, resting, fresh, under_way, stopped, active, marked, suspended, value_of, mark_of, clean, is_fresh, is_open, is_suspended, is_active, is_plain, is_ready, Step, begins, stops, ends, fails, suspends, Becomes, stays, goes_on}
+use Rattle.settling.specs.Cells.{Kept, Cell, plain, resting, fresh, under_way, stopped, active, marked, suspended, value_of, mark_of, clean, is_fresh, is_open, is_suspended, is_active, is_plain, is_ready, is_ended, is_valued, Step, begins, stops, ends, fails, suspends, Becomes, stays, goes_on}
 
 module _ {V F : Type 0} where
   pub becomes_itself : (c : Cell V F) → Becomes c c
@@ -34,13 +34,6 @@ module _ {V F : Type 0} where
   clean_value (active w) h = cc
   clean_value (marked w f) h = cc
   clean_value (suspended k) h = cc
-
-  -- neither is fresh nor has an evaluation that is under way
-  abbrev pub is_ended : Cell V F → Bool
-  is_ended (fresh k) = false
-  is_ended (under_way k) = false
-  is_ended (stopped k) = false
-  is_ended _ = true
 
   step_ended : {c d : Cell V F} → Step c d → is_ended c ≡ false
   step_ended (begins k e i) = ap is_ended e
@@ -96,11 +89,6 @@ module _ {V F : Type 0} where
   ready_ended (active w) h f = refl
   ready_ended (marked w g) h f = refl
   ready_ended (suspended k) h f = refl
-
-  -- the place has the value of its expression
-  abbrev pub is_valued : Cell V F → Bool
-  is_valued (active v) = true
-  is_valued _ = false
 
   pub becomes_value : {c d : Cell V F} → Becomes c d → is_valued d ≡ false → value_of d ≡ value_of c
   becomes_value (stays e) h = ap value_of e

@@ -68,11 +68,29 @@ module _ {V F : Type 0} where
   is_suspended (suspended k) = true
   is_suspended _ = false
 
+  -- it was read in this settle while its evaluation was under way
+  abbrev pub is_halted : Cell V F → Bool
+  is_halted (stopped k) = true
+  is_halted (suspended k) = true
+  is_halted _ = false
+
   -- it has an expression, and isn't suspended
   abbrev pub is_active : Cell V F → Bool
   is_active (active v) = true
   is_active (marked v f) = true
   is_active _ = false
+
+  -- neither is fresh nor has an evaluation that is under way
+  abbrev pub is_ended : Cell V F → Bool
+  is_ended (fresh k) = false
+  is_ended (under_way k) = false
+  is_ended (stopped k) = false
+  is_ended _ = true
+
+  -- the place has the value of its expression
+  abbrev pub is_valued : Cell V F → Bool
+  is_valued (active v) = true
+  is_valued _ = false
 
   abbrev pub is_plain : Cell V F → Bool
   is_plain (plain k) = true

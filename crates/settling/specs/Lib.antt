@@ -4,3 +4,7 @@ pub mod Spaces
 pub mod Settling
 pub mod Holding
 pub mod Evaluations
+pub mod Phases
+pub mod Laws
+pub mod Turns
+pub mod Stacks
