@@ -17,7 +17,7 @@ on_ok (Err e) h a b = tt
 
 module _ {S P V F : Type 0} (space : Space S P V F) where
   -- the cells of these phases
-  fresh_by : (c : Cell V F) → phase_of c ≡ phase.Fresh → (k : Kept V F) × (c ≡ fresh k)
+  pub fresh_by : (c : Cell V F) → phase_of c ≡ phase.Fresh → (k : Kept V F) × (c ≡ fresh k)
   fresh_by (plain k) h = cc
   fresh_by (resting k) h = cc
   fresh_by (fresh k) h = (k, refl)

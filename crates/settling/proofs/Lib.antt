@@ -8,3 +8,6 @@ pub mod Fuel
 pub mod Outcome
 pub mod Calls
 pub mod Unwinding
+pub mod Standing
+pub mod Measure
+pub mod Going

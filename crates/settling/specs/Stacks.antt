@@ -4,6 +4,7 @@ use Rattle.std.specs.List.{list_any}
 use Rattle.settling.specs.Runs.{Run}
 use Rattle.settling.specs.Cells.{is_fresh, is_open, is_halted}
 use Rattle.settling.specs.Spaces.{Space, is_among}
+use Rattle.settling.specs.Settling.{Visits}
 use Rattle.settling.specs.Holding.{Reads, IsChain, Later}
 
 module _ {S P V F : Type 0} (space : Space S P V F) where
@@ -46,3 +47,7 @@ module _ {S P V F : Type 0} (space : Space S P V F) (tree : P → Run P V F) whe
     pub chains : (u : S) → Later space s u → AreChains u loops
     pub halted : (x : P) → is_halted (space.at s x) ≡ has_loop space loops x
     pub once : AreOnce space loops
+
+  -- a visit to the place leads from s to t
+  abbrev pub IsVisited : S → P → S → Type 0
+  IsVisited s p t = (v : V) × Visits space tree s p v t

@@ -1,0 +1,15 @@
+use Rattle.std.proofs.Common.{◌≡◌, map}
+use Rattle.settling.specs.Turns.{shown}
+use Rattle.settling.proofs.Measure.{waiting}
+use Rattle.settling.proofs.Going.{IsGoing}
+use Rattle.settling.proofs.visits.visit.Given as goal
+
+abbrev pub invariant-loop-top : goal.invariant-loop-top
+invariant-loop-top g l = record {
+  going : IsGoing g.F.Field.space (g.F.Field.tree l.fn.field) (g.F.Field.places l.fn.field) (g.F.Field.state l.fn.field) l.fn.place l.stack.items (g.F.Field.state l.field) (map shown l.loops.items);
+  tree : g.F.Field.tree l.field ≡ g.F.Field.tree l.fn.field;
+  places : g.F.Field.places l.field ≡ g.F.Field.places l.fn.field;
+}
+
+abbrev pub decreases-loop-top : goal.decreases-loop-top
+decreases-loop-top g l = waiting g.F.Field.space (g.F.Field.places l.fn.field) (g.F.Field.state l.field)
