@@ -2,14 +2,13 @@
 use Rattle.std.proofs.Common.{◌≡◌, List, [], ◌∷◌, ◌++◌, Option, Some, None, Result, Ok, Err, refl, sym, ap, subst, ◌∙◌}
 use Rattle.std.specs.Prelude.{OnOk}
 use Rattle.settling.specs.Runs.{Run}
-use Rattle.settling.specs.Cells.{Kept, Cell, plain, resting, fresh, under_way, stopped, active, marked, suspended, clean, is_open}
+use Rattle.settling.specs.Cells.{Kept, Cell, plain, resting, fresh, under_way, stopped, active, marked, suspended, clean}
 use Rattle.settling.specs.Spaces.{Space}
 use Rattle.settling.specs.Evaluations.{evaluated}
 use Rattle.settling.specs.Phases.{phase_of, Moves, begun, halted, left}
 use Rattle.settling.specs.Turns.{above, Meets, enters, stops, Turns, gives_up, comes_to_end, needs}
-use Rattle.settling.specs.declared.field.Phase.{Phase}
 use Rattle.settling.specs.declared.field.Phase.TheVariants as phase
-use Rattle.settling.proofs.Resumed.{Needs, evaluated_needs, needs_unclean}
+use Rattle.settling.proofs.Resumed.{evaluated_needs, needs_unclean}
 
 pub on_ok : {T E : Type 0} {A B C : Type 0} (r : Result T E) → (A → B → C) → OnOk r A → OnOk r B → OnOk r C
 on_ok (Ok x) h a b = h a b

@@ -1,6 +1,6 @@
 -- What putting a cell at a place changes.
-use Rattle.std.proofs.Common.{◌≡◌, Bool, true, false, Option, Some, None, refl, sym, ap, subst, ◌∙◌}
-use Rattle.settling.specs.Cells.{Kept, Cell, fresh, under_way, stopped, active, marked, suspended, clean, is_plain, Step, begins, stops, ends, fails, suspends, Becomes, stays, goes_on}
+use Rattle.std.proofs.Common.{◌≡◌, Bool, true, false, Some, refl, sym, ap, subst}
+use Rattle.settling.specs.Cells.{Cell, clean, is_plain, Step, begins, stops, ends, fails, suspends, Becomes, stays}
 use Rattle.settling.specs.Spaces.{Space}
 use Rattle.settling.specs.Holding.{Later}
 use Rattle.settling.proofs.Steps.{becomes_itself, becomes_by, becomes_again, becomes_clean}

@@ -1,5 +1,5 @@
 -- No more evaluations nest than there are places that weren't visited, so the function is the relation.
-use Rattle.std.proofs.Common.{◌≡◌, ℕ, zero, suc, ◌+◌, ◌≤◌, ◌<◌, Bool, true, false, cond, List, [], ◌∷◌, length, Option, Some, None, refl, sym, ap, subst, ◌∙◌, arith}
+use Rattle.std.proofs.Common.{◌≡◌, ℕ, zero, suc, ◌+◌, ◌≤◌, ◌<◌, Bool, true, false, cond, List, [], ◌∷◌, length, refl, sym, ap, subst, ◌∙◌, arith}
 use Rattle.settling.specs.Runs.{Run, gives, faults, asks}
 use Rattle.settling.specs.Cells.{Kept, Cell, plain, resting, fresh, under_way, stopped, active, marked, suspended, value_of, clean, is_fresh, is_open, Becomes}
 use Rattle.settling.specs.Cells as cells
@@ -10,7 +10,6 @@ use Rattle.settling.proofs.Steps.{clean_value, becomes_fresh}
 use Rattle.settling.proofs.Changes.{put_there, later_put}
 use Rattle.settling.proofs.Visited.{visits_clean, visits_later, runs_clean}
 use Rattle.settling.proofs.Once.{visits_once}
-use Rattle.settling.proofs.Fulfilled.{runs_ended}
 
 -- Sums over lists of places
 

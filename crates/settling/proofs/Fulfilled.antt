@@ -1,13 +1,13 @@
 -- Once a place was visited its equation holds, now and later.
-use Rattle.std.proofs.Common.{◌≡◌, Bool, true, false, List, [], ◌∷◌, Option, Some, None, Result, Ok, Err, refl, sym, ap, subst, ◌∙◌}
-use Rattle.settling.specs.Runs.{Run, gives, faults, asks, answer}
+use Rattle.std.proofs.Common.{◌≡◌, Bool, true, false, List, ◌∷◌, refl, sym, ap, subst, ◌∙◌}
+use Rattle.settling.specs.Runs.{Run, answer}
 use Rattle.settling.specs.Cells.{Kept, Cell, plain, resting, fresh, under_way, stopped, active, marked, suspended, value_of, clean, is_fresh, is_ready, is_ended, Becomes}
 use Rattle.settling.specs.Cells as cells
 use Rattle.settling.specs.Spaces.{Space, values, is_among}
 use Rattle.settling.specs.Settling.{Visits, Runs, Settles, done, again, first, stops, ends, fails, goes, none, more, Covers, IsReady}
 use Rattle.settling.specs.Holding.{Equation, Holds, Later}
 use Rattle.settling.proofs.Steps.{clean_value, clean_fresh, becomes_ended, becomes_fresh, ready_ended}
-use Rattle.settling.proofs.Changes.{put_there, later_put, later_itself, later_again, later_clean}
+use Rattle.settling.proofs.Changes.{put_there, later_itself, later_again, later_clean}
 use Rattle.settling.proofs.Visited.{visits_clean, visits_later, runs_later}
 
 module _ {P V F : Type 0} where

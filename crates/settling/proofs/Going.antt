@@ -1,11 +1,11 @@
 -- What is so of the loop of one visit, from turn to turn.
-use Rattle.std.proofs.Common.{◌≡◌, ℕ, ◌<◌, Bool, true, false, ◌||◌, List, [], ◌∷◌, ◌++◌, Some, refl, sym, ap, subst, ◌∙◌}
+use Rattle.std.proofs.Common.{◌≡◌, ◌<◌, Bool, true, false, ◌||◌, List, [], ◌∷◌, ◌++◌, Some, refl, sym, ap, subst, ◌∙◌}
 use Rattle.std.proofs.lemmas.List.Folds.{list_any-append}
 use Rattle.settling.specs.Runs.{Run}
 use Rattle.settling.specs.Cells.{Kept, Cell, plain, resting, fresh, under_way, stopped, active, marked, suspended, clean, is_fresh, is_open}
 use Rattle.settling.specs.Cells as cells
 use Rattle.settling.specs.Spaces.{Space, is_among}
-use Rattle.settling.specs.Settling.{Visits, Runs, done, first}
+use Rattle.settling.specs.Settling.{done, first}
 use Rattle.settling.specs.Phases.{phase_of, Moves, begun}
 use Rattle.settling.specs.declared.field.Phase.TheVariants.{Fresh}
 use Rattle.settling.specs.Turns.{Turns}
@@ -14,7 +14,7 @@ use Rattle.settling.proofs.Visited.{runs_clean}
 use Rattle.settling.proofs.Once.{runs_at}
 use Rattle.settling.proofs.Unwinding.{Unwinds, turns_unwind}
 use Rattle.settling.proofs.Standing.{push_stands, turns_stand}
-use Rattle.settling.proofs.Measure.{waiting, IsMoved, moved_later, moved_falls, within_later, turns_move}
+use Rattle.settling.proofs.Measure.{waiting, moved_later, moved_falls, within_later, turns_move}
 use Rattle.settling.proofs.Calls.{fresh_by}
 
 module _ {S P V F : Type 0} (space : Space S P V F) (tree : P → Run P V F) (places : List P) where
@@ -28,9 +28,9 @@ module _ {S P V F : Type 0} (space : Space S P V F) (tree : P → Run P V F) (pl
       → space.at s place ≡ fresh k → t ≡ space.put s place (under_way k) → IsGoing s place (place ∷ []) t loops
   going_first place s t loops k stands within e i = record {
     visits = λ u w.
-      let r = runs_at space tree refl (w.1 ∙ i) w.2 in
-      let clean = runs_clean space tree r in
-      (clean.0, first k e r clean.1);
+        let r = runs_at space tree refl (w.1 ∙ i) w.2 in
+        let clean = runs_clean space tree r in
+        (clean.0, first k e r clean.1);
     stands = push_stands space tree [] place s t loops k stands e i (λ u l. tt);
     within = within_later space places within (moved_later space (record { place = place; cell = under_way k; step = cells.begins k e refl; put = i }));
   }
@@ -74,9 +74,10 @@ module _ {S P V F : Type 0} (space : Space S P V F) (tree : P → Run P V F) (pl
       → IsGoing start place stack t loops' × (waiting space places t < waiting space places s)
   going_turn other start place top all below s loops stack t loops' same popped h turn =
       let turned : Turns space tree top below s loops stack t loops' = subst (λ (x : P → Run P V F). Turns space x top below s loops stack t loops') same turn in
-      let before = going_as start place all (below ++ top ∷ []) s loops popped h in
-      (going_on start place top below s loops stack t loops' before turned,
-      moved_falls space places before.within (turns_move space tree top below s loops stack t loops' turned))
+      let before = going_as start place all (below ++ top ∷ []) s loops popped h in (
+        going_on start place top below s loops stack t loops' before turned,
+        moved_falls space places before.within (turns_move space tree top below s loops stack t loops' turned),
+      )
 
   pub going_top : (start : S) (place top : P) (all below : List P) (s : S) (loops : List (P × List P)) → all ≡ below ++ top ∷ [] → IsGoing start place all s loops
       → is_open (space.at s top) ≡ true

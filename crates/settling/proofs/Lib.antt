@@ -11,3 +11,4 @@ pub mod Unwinding
 pub mod Standing
 pub mod Measure
 pub mod Going
+pub mod Rounds

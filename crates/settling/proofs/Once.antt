@@ -1,10 +1,9 @@
 -- A visit and an evaluation lead to one state.
-use Rattle.std.proofs.Common.{◌≡◌, Option, Some, None, refl, sym, ap, subst, ◌∙◌}
+use Rattle.std.proofs.Common.{◌≡◌, Some, refl, sym, ap, subst, ◌∙◌}
 use Rattle.settling.specs.Runs.{Run, gives, faults, asks}
-use Rattle.settling.specs.Cells.{Kept, Cell, fresh, under_way, stopped, active, marked, suspended, clean}
+use Rattle.settling.specs.Cells.{Kept, fresh, under_way, stopped, active, marked, suspended, clean}
 use Rattle.settling.specs.Spaces.{Space}
-use Rattle.settling.specs.Settling.{Visits, Runs, Settles, done, again, first, stops, ends, fails, goes, none, more}
-use Rattle.settling.proofs.Visited.{visits_clean}
+use Rattle.settling.specs.Settling.{Visits, Runs, done, again, first, stops, ends, fails, goes}
 
 module _ {S P V F : Type 0} (space : Space S P V F) (tree : P → Run P V F) where
   pub runs_at : {p : P} {r r' : Run P V F} {s s' t : S} → r ≡ r' → s ≡ s' → Runs space tree p r s t → Runs space tree p r' s' t

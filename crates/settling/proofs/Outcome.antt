@@ -1,7 +1,6 @@
 -- What each place has after a settle.
-use Rattle.std.proofs.Common.{◌≡◌, Bool, true, false, List, refl}
+use Rattle.std.proofs.Common.{List}
 use Rattle.settling.specs.Runs.{Run}
-use Rattle.settling.specs.Cells.{is_fresh}
 use Rattle.settling.specs.Spaces.{Space}
 use Rattle.settling.specs.Settling.{Settles, Covers, IsReady, settled}
 use Rattle.settling.specs.Laws.{IsSettled}

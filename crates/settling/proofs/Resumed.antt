@@ -1,9 +1,9 @@
 -- An evaluation that begins again once the place that it needed has a value goes on as if it had waited.
 use Rattle.std.proofs.Common.{◌≡◌, Option, Some, None, refl, sym, ap, subst, ◌∙◌}
 use Rattle.settling.specs.Runs.{Run, gives, faults, asks, IsRead, now, later}
-use Rattle.settling.specs.Cells.{Kept, Cell, fresh, under_way, stopped, active, marked, suspended, value_of, clean}
+use Rattle.settling.specs.Cells.{Kept, Cell, under_way, marked, value_of, clean}
 use Rattle.settling.specs.Spaces.{Space, values}
-use Rattle.settling.specs.Settling.{Visits, Runs, done, again, first, stops, ends, fails, goes}
+use Rattle.settling.specs.Settling.{Visits, Runs, done, stops, ends, fails, goes}
 use Rattle.settling.specs.Holding.{Later}
 use Rattle.settling.specs.Evaluations.{wanted, evaluated}
 use Rattle.settling.proofs.Steps.{clean_value}

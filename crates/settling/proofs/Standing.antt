@@ -1,17 +1,17 @@
 -- What stands of the stack and the loops, from turn to turn.
-use Rattle.std.proofs.Common.{◌≡◌, Bool, true, false, ◌||◌, List, [], ◌∷◌, ◌++◌, Option, Some, None, refl, sym, ap, ap₂, subst, ◌∙◌}
-use Rattle.std.specs.List.{list_any}
+use Rattle.std.proofs.Common.{◌≡◌, Bool, true, false, ◌||◌, List, [], ◌∷◌, ◌++◌, Option, Some, None, refl, sym, ap, subst, ◌∙◌}
 use Rattle.std.proofs.lemmas.List.Folds.{list_any-append}
-use Rattle.settling.specs.Runs.{Run, gives, faults, asks, IsRead}
+use Rattle.settling.specs.Runs.{Run, gives, faults, asks}
 use Rattle.settling.specs.Cells.{Kept, Cell, fresh, under_way, stopped, active, marked, suspended, value_of, clean, is_open, is_halted, Step, Becomes}
 use Rattle.settling.specs.Cells as cells
-use Rattle.settling.specs.Spaces.{Space, values, is_among}
+use Rattle.settling.specs.Spaces.{Space, is_among}
 use Rattle.settling.specs.Holding.{Reads, IsPath, IsChain, Later}
 use Rattle.settling.specs.Evaluations.{wanted, evaluated}
 use Rattle.settling.specs.Turns.{above, Meets, enters, stops, Turns, gives_up, comes_to_end, needs}
-use Rattle.settling.specs.Stacks.{AreApart, has_loop, AreOnce, AreLinked, AreChains, Stands}
-use Rattle.settling.proofs.Changes.{put_there, later_put, later_itself, later_again}
-use Rattle.settling.proofs.Resumed.{Needs, needs_read, evaluated_needs}
+use Rattle.settling.specs.Loops.{has_loop, AreOnce, AreChains}
+use Rattle.settling.specs.Stacks.{AreApart, AreLinked, Stands}
+use Rattle.settling.proofs.Changes.{put_there, later_put, later_again}
+use Rattle.settling.proofs.Resumed.{needs_read, evaluated_needs}
 
 or_false : (b : Bool) → (b || false) ≡ b
 or_false true = refl

@@ -1,6 +1,6 @@
 -- What the steps of a place keep.
-use Rattle.std.proofs.Common.{◌≡◌, Bool, true, false, Option, Some, None, refl, sym, ap, subst, ◌∙◌}
-use Rattle.settling.specs.Cells.{Kept, Cell, plain, resting, fresh, under_way, stopped, active, marked, suspended, value_of, mark_of, clean, is_fresh, is_open, is_suspended, is_active, is_plain, is_ready, is_ended, is_valued, Step, begins, stops, ends, fails, suspends, Becomes, stays, goes_on}
+use Rattle.std.proofs.Common.{◌≡◌, true, false, Some, refl, sym, ap, subst, ◌∙◌}
+use Rattle.settling.specs.Cells.{Kept, Cell, plain, resting, fresh, under_way, stopped, active, marked, suspended, value_of, mark_of, clean, is_fresh, is_active, is_ready, is_ended, is_valued, Step, begins, stops, ends, fails, suspends, Becomes, stays, goes_on}
 
 module _ {V F : Type 0} where
   pub becomes_itself : (c : Cell V F) → Becomes c c

@@ -1,7 +1,7 @@
 -- A stack of evaluations that unwinds: each one's evaluation goes on where the one above it has come to.
-use Rattle.std.proofs.Common.{◌≡◌, List, [], ◌∷◌, ◌++◌, Option, Some, None, refl, sym, ap, subst, ◌∙◌}
+use Rattle.std.proofs.Common.{◌≡◌, List, [], ◌∷◌, ◌++◌, refl, sym, subst}
 use Rattle.settling.specs.Runs.{Run}
-use Rattle.settling.specs.Cells.{Kept, Cell, under_way}
+use Rattle.settling.specs.Cells.{Kept, under_way}
 use Rattle.settling.specs.Spaces.{Space}
 use Rattle.settling.specs.Settling.{Visits, Runs, done, again, first}
 use Rattle.settling.specs.Settling as visit

@@ -1,12 +1,12 @@
 -- The value that a visit gave never changes, and an evaluation that begins again goes on.
-use Rattle.std.proofs.Common.{◌≡◌, Bool, true, false, Option, Some, None, refl, sym, ap, subst, ◌∙◌}
-use Rattle.settling.specs.Runs.{Run, gives, faults, asks}
+use Rattle.std.proofs.Common.{◌≡◌, Some, refl, sym, ap, subst, ◌∙◌}
+use Rattle.settling.specs.Runs.{Run}
 use Rattle.settling.specs.Cells.{Kept, Cell, fresh, under_way, stopped, active, marked, suspended, clean, Step, Becomes}
 use Rattle.settling.specs.Cells as cells
 use Rattle.settling.specs.Spaces.{Space}
-use Rattle.settling.specs.Settling.{Visits, Runs, Settles, done, again, first, stops, ends, fails, goes, none, more}
+use Rattle.settling.specs.Settling.{Visits, Runs, done, again, first, stops, ends, fails, goes}
 use Rattle.settling.specs.Holding.{Later}
-use Rattle.settling.proofs.Changes.{put_there, later_put, later_itself, later_again, later_clean}
+use Rattle.settling.proofs.Changes.{put_there, later_put, later_itself, later_again}
 
 module _ {S P V F : Type 0} (space : Space S P V F) (tree : P → Run P V F) where
   mutual

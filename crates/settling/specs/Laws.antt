@@ -1,9 +1,8 @@
 -- What is so of every settle.
-use Rattle.std.specs.Prelude.{◌≡◌, true, false, List}
+use Rattle.std.specs.Prelude.{◌≡◌, true, false}
 use Rattle.settling.specs.Runs.{Run}
-use Rattle.settling.specs.Cells.{plain, resting, Kept, active, value_of, mark_of, is_fresh, is_ended, is_active, is_valued, clean}
-use Rattle.settling.specs.Spaces.{Space, values}
-use Rattle.settling.specs.Settling.{Settles, Covers, IsReady}
+use Rattle.settling.specs.Cells.{value_of, mark_of, is_fresh, is_ended, is_active, is_valued}
+use Rattle.settling.specs.Spaces.{Space}
 use Rattle.settling.specs.Holding.{Holds}
 
 module _ {S P V F : Type 0} (space : Space S P V F) (tree : P → Run P V F) where

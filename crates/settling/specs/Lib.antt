@@ -6,5 +6,6 @@ pub mod Holding
 pub mod Evaluations
 pub mod Phases
 pub mod Laws
+pub mod Loops
 pub mod Turns
 pub mod Stacks

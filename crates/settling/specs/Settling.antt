@@ -1,7 +1,7 @@
 -- Settling: places are visited, and each visit evaluates what the place reads first.
-use Rattle.std.specs.Prelude.{◌≡◌, ℕ, zero, suc, Bool, true, List, [], ◌∷◌, length, Option, Some}
+use Rattle.std.specs.Prelude.{◌≡◌, ℕ, zero, suc, true, List, [], ◌∷◌, length, Some}
 use Rattle.settling.specs.Runs.{Run, gives, faults, asks}
-use Rattle.settling.specs.Cells.{Kept, Cell, plain, resting, fresh, under_way, stopped, active, marked, suspended, value_of, clean, is_fresh, is_ready}
+use Rattle.settling.specs.Cells.{Kept, Cell, fresh, under_way, stopped, active, marked, suspended, value_of, clean, is_fresh, is_ready}
 use Rattle.settling.specs.Spaces.{Space, is_among}
 
 -- As a relation. `Visits s p v t`: a visit to the place p gives v and leads from s to t. `Runs p r s t`: control is

@@ -1,26 +1,17 @@
--- The stack of evaluations that are under way, bottom first, and the loops that were found. No public clause cites `Stands` or `IsWithin`.
-use Rattle.std.specs.Prelude.{◌≡◌, ◌||◌, Bool, true, false, List, [], ◌∷◌}
-use Rattle.std.specs.List.{list_any}
+-- The stack of evaluations that are under way, bottom first, and the loops that were found. No public clause cites this module.
+use Rattle.std.specs.Prelude.{◌≡◌, ◌||◌, true, false, List, [], ◌∷◌}
 use Rattle.settling.specs.Runs.{Run}
 use Rattle.settling.specs.Cells.{is_fresh, is_open, is_halted}
 use Rattle.settling.specs.Spaces.{Space, is_among}
 use Rattle.settling.specs.Settling.{Visits}
-use Rattle.settling.specs.Holding.{Reads, IsChain, Later}
+use Rattle.settling.specs.Loops.{has_loop, AreOnce, AreChains}
+use Rattle.settling.specs.Holding.{Reads, Later}
 
 module _ {S P V F : Type 0} (space : Space S P V F) where
   -- no place stands twice
   abbrev pub AreApart : List P → Type 0
   AreApart [] = Unit {0}
   AreApart (p ∷ ps) = (is_among space ps p ≡ false) × AreApart ps
-
-  -- whether a loop was found at the place
-  abbrev pub has_loop : List (P × List P) → P → Bool
-  has_loop loops p = list_any (λ found. space.are_same found.0 p) loops
-
-  -- no loop was found twice
-  abbrev pub AreOnce : List (P × List P) → Type 0
-  AreOnce [] = Unit {0}
-  AreOnce (found ∷ loops) = (has_loop loops found.0 ≡ false) × AreOnce loops
 
   -- an evaluation is under way only at one of these places, and only these weren't visited
   abbrev pub IsWithin : List P → S → Type 0
@@ -33,18 +24,13 @@ module _ {S P V F : Type 0} (space : Space S P V F) (tree : P → Run P V F) whe
   AreLinked s (p ∷ []) = Unit {0}
   AreLinked s (p ∷ q ∷ qs) = Reads space tree s p q × AreLinked s (q ∷ qs)
 
-  -- the chain of each loop is one over the state
-  abbrev pub AreChains : S → List (P × List P) → Type 0
-  AreChains s [] = Unit {0}
-  AreChains s (found ∷ loops) = IsChain space tree s found.0 found.1 × AreChains s loops
-
   -- The stack has the places whose evaluations are under way, each of which reads the next one, now and later. The loops are those of the
   -- places that were read while their evaluations were under way, with their chains, now and later.
   pub record Stands (stack : List P) (s : S) (loops : List (P × List P)) : Type 0 where
     pub opens : (x : P) → is_open (space.at s x) ≡ is_among space stack x
     pub apart : AreApart space stack
     pub linked : (u : S) → Later space s u → AreLinked u stack
-    pub chains : (u : S) → Later space s u → AreChains u loops
+    pub chains : (u : S) → Later space s u → AreChains space tree u loops
     pub halted : (x : P) → is_halted (space.at s x) ≡ has_loop space loops x
     pub once : AreOnce space loops
 

@@ -1,14 +1,9 @@
 -- One turn of the loop that settles. No public clause cites this module.
-use Rattle.std.specs.Prelude.{◌≡◌, if◌then◌else◌, List, [], ◌∷◌, ◌++◌, map, Option, Some, None}
+use Rattle.std.specs.Prelude.{◌≡◌, if◌then◌else◌, List, [], ◌∷◌, ◌++◌, Some, None}
 use Rattle.settling.specs.Runs.{Run}
-use Rattle.settling.specs.Cells.{Kept, Cell, fresh, under_way, stopped, suspended}
+use Rattle.settling.specs.Cells.{Kept, fresh, under_way, stopped, suspended}
 use Rattle.settling.specs.Spaces.{Space}
 use Rattle.settling.specs.Evaluations.{evaluated}
-use Rattle.settling.specs.declared.found.LoopFound.{LoopFound}
-
--- a loop as the place and its chain
-abbrev pub shown : {P : Type 0} → LoopFound P → P × List P
-shown found = (found.place, found.chain.items)
 
 module _ {S P V F : Type 0} (space : Space S P V F) where
   -- the places after this one

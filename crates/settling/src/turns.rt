@@ -1,7 +1,8 @@
 ghost use Rattle.std.specs.Prelude.{◌≡◌, [], ◌∷◌, ◌++◌, true, map, None, IfOk, OnOk, length};
 ghost use Rattle.settling.specs.Cells.{clean, is_open};
 ghost use Rattle.settling.specs.Phases.{phase_of, Moves, begun};
-ghost use Rattle.settling.specs.Turns.{shown, above, Meets, Turns};
+ghost use Rattle.settling.specs.Loops.{shown};
+ghost use Rattle.settling.specs.Turns.{above, Meets, Turns};
 
 use crate::field::{Field, Phase};
 use crate::found::LoopFound;

@@ -1,5 +1,8 @@
-ghost use Rattle.std.specs.Prelude.{◌≡◌, [], map, OnOk};
-ghost use Rattle.settling.specs.Turns.{shown};
+ghost use Rattle.std.specs.Prelude.{◌≡◌, [], map, OnOk, IfOk};
+ghost use Rattle.settling.specs.Cells.{is_suspended};
+ghost use Rattle.settling.specs.Settling.{settled, Covers, IsReady};
+ghost use Rattle.settling.specs.Laws.{IsSettled};
+ghost use Rattle.settling.specs.Loops.{shown, has_loop, AreOnce, AreChains};
 ghost use Rattle.settling.specs.Stacks.{Stands, IsWithin, IsVisited};
 
 use crate::field::{Field, Phase};
@@ -34,10 +37,42 @@ fn visit<F: Field>(
     Ok(())
 }
 
-/// Not yet.
+/// Brings the places of a field up to date: visits them in order, each after what its expression reads. A place
+/// that is read while its evaluation is under way gives its last value, and its evaluation is stopped when
+/// control returns to it. It then keeps the last value, is suspended, and is the place of a loop.
+///
+/// Answers the loops in the order in which they were found. Places that are done as it begins, those that stand
+/// suspended among them, are left as they are. It recurses nowhere, however deep bindings depend on each other.
+///
+/// Its only error is that memory ran out. Nothing is then said of the field's state.
 pub fn settle<F: Field>(
     alloc: Global,
-    _field: &mut F,
-) -> Result<Vec<LoopFound<F::Place>>, AllocError> {
-    Ok(Vec::new(alloc))
+    field: &mut F,
+) -> Result<Vec<LoopFound<F::Place>>, AllocError>
+    requires ready { IsReady F.space (F.state field.old) }
+    requires covers { Covers F.space (F.places field.old) (F.state field.old) }
+
+    ensures settled { OnOk result
+        (F.state field.new ≡ settled F.space (F.tree field.old) (F.places field.old) (F.state field.old)) }
+    ensures holds { OnOk result
+        ((p : F.Place) → IsSettled F.space (F.tree field.old) (F.state field.old) (F.state field.new) p) }
+
+    // Each loop has its chain over the settled state, and the loops are those of the suspended places, each once.
+    ensures chains { IfOk result
+        (λ loops. AreChains F.space (F.tree field.old) (F.state field.new) (map shown loops.items)) }
+    ensures loops { IfOk result
+        (λ loops. (p : F.Place) → is_suspended (F.space.at (F.state field.new) p) ≡ has_loop F.space (map shown loops.items) p) }
+    ensures once { IfOk result (λ loops. AreOnce F.space (map shown loops.items)) }
+
+    ensures tree { F.tree field.new ≡ F.tree field.old }
+    ensures places { F.places field.new ≡ F.places field.old }
+{
+    let mut stack = Vec::new(alloc);
+    let mut loops = Vec::new(alloc);
+    let count = field.count();
+    for index in 0..count {
+        let place = field.place(index);
+        visit(alloc, field, place, &mut stack, &mut loops)?;
+    }
+    Ok(loops)
 }

@@ -1,6 +1,7 @@
-use Rattle.std.proofs.Common.{◌≡◌, List, ◌∷◌, [], ◌++◌, map, refl, ap, ◌∙◌, rules}
+use Rattle.std.proofs.Common.{◌≡◌, List, ◌∷◌, [], ◌++◌, map, ap, ◌∙◌, rules}
 use Rattle.std.proofs.lemmas.List.{map-append}
-use Rattle.settling.specs.Turns.{shown, above}
+use Rattle.settling.specs.Loops.{shown}
+use Rattle.settling.specs.Turns.{above}
 use Rattle.settling.specs.Phases.{phase_of}
 use Rattle.settling.specs.declared.field.Phase.TheVariants.{Fresh, UnderWay}
 use Rattle.settling.proofs.Calls.{on_ok, enters_at, stops_at}

@@ -1,6 +1,5 @@
-use Rattle.std.proofs.Common.{◌≡◌, List, ◌∷◌, [], ◌++◌, refl, sym, rules}
+use Rattle.std.proofs.Common.{◌≡◌, rules}
 use Rattle.settling.specs.Phases.{phase_of}
-use Rattle.settling.specs.Turns.{Meets, Turns}
 use Rattle.settling.specs.declared.field.Phase.TheVariants.{UnderWay, Stopped}
 use Rattle.settling.proofs.Calls.{on_ok, needed_unclean, gives_up_at, ends_at, needs_at}
 use Rattle.settling.proofs.turns.turn.Goals as goal

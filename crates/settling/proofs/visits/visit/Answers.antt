@@ -1,7 +1,7 @@
 use Rattle.std.proofs.Common.{◌≡◌, ◌∙◌, false, map, rules}
-use Rattle.settling.specs.Cells.{is_fresh, is_open}
+use Rattle.settling.specs.Cells.{is_fresh}
 use Rattle.settling.specs.Phases.{phase_of}
-use Rattle.settling.specs.Turns.{shown}
+use Rattle.settling.specs.Loops.{shown}
 use Rattle.settling.specs.declared.field.Phase.TheVariants.{Fresh}
 use Rattle.settling.proofs.Going.{going_enters, going_turn, ended_visited}
 use Rattle.settling.proofs.visits.visit.Goals as goal

@@ -1,5 +1,5 @@
 use Rattle.std.proofs.Common.{◌≡◌, map}
-use Rattle.settling.specs.Turns.{shown}
+use Rattle.settling.specs.Loops.{shown}
 use Rattle.settling.proofs.Measure.{waiting}
 use Rattle.settling.proofs.Going.{IsGoing}
 use Rattle.settling.proofs.visits.visit.Given as goal
