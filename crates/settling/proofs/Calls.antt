@@ -1,11 +1,14 @@
 -- What the calls of one turn come to.
-use Rattle.std.proofs.Common.{◌≡◌, List, [], ◌∷◌, ◌++◌, Option, Some, None, Result, Ok, Err, refl, sym, ap, subst, ◌∙◌}
+use Rattle.std.proofs.Common.{◌≡◌, List, [], ◌∷◌, ◌++◌, map, Option, Some, None, Result, Ok, Err, refl, sym, ap, subst, ◌∙◌}
 use Rattle.std.specs.Prelude.{OnOk}
 use Rattle.settling.specs.Runs.{Run}
 use Rattle.settling.specs.Cells.{Kept, Cell, plain, resting, fresh, under_way, stopped, active, marked, suspended, clean}
 use Rattle.settling.specs.Spaces.{Space}
 use Rattle.settling.specs.Evaluations.{evaluated}
 use Rattle.settling.specs.Phases.{phase_of, Moves, begun, halted, left}
+use Rattle.std.proofs.lemmas.List.{map-append}
+use Rattle.settling.specs.Loops.{shown}
+use Rattle.settling.specs.declared.found.LoopFound.{LoopFound}
 use Rattle.settling.specs.Turns.{above, Meets, enters, stops, Turns, gives_up, comes_to_end, needs}
 use Rattle.settling.specs.declared.field.Phase.TheVariants as phase
 use Rattle.settling.proofs.Resumed.{evaluated_needs, needs_unclean}
@@ -83,3 +86,9 @@ module _ {S P V F : Type 0} (space : Space S P V F) (tree : P → Run P V F) whe
   needs_at {top = top} {q = q} {s = s} {m = m} {loops = loops} {stack = stack} {t = t} {loops' = loops'} h e some pushed meets =
       let cell = under_way_by space (space.at s top) h in
       needs cell.0 q m cell.1 (e ∙ ap (λ (o : Option P). (o, m)) some) (subst (λ (xs : List P). Meets space q xs m loops stack t loops') pushed meets)
+
+-- a loop more
+pub shown_push : {P : Type 0} (old new : List (LoopFound P)) (found : LoopFound P) (chain : List P) → new ≡ old ++ found ∷ [] → found.chain.items ≡ chain
+    → map shown new ≡ map shown old ++ (found.place, chain) ∷ []
+shown_push {P = P} old new found chain pushed same =
+    ap (map shown) pushed ∙ map-append shown old (found ∷ []) ∙ ap (λ (xs : List P). map shown old ++ (found.place, xs) ∷ []) same

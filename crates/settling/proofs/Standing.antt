@@ -1,12 +1,12 @@
 -- What stands of the stack and the loops, from turn to turn.
-use Rattle.std.proofs.Common.{◌≡◌, Bool, true, false, ◌||◌, List, [], ◌∷◌, ◌++◌, Option, Some, None, refl, sym, ap, subst, ◌∙◌}
+use Rattle.std.proofs.Common.{◌≡◌, Bool, true, false, ◌||◌, List, [], ◌∷◌, ◌++◌, Option, None, refl, sym, ap, subst, ◌∙◌}
 use Rattle.std.proofs.lemmas.List.Folds.{list_any-append}
-use Rattle.settling.specs.Runs.{Run, gives, faults, asks}
+use Rattle.settling.specs.Runs.{Run}
 use Rattle.settling.specs.Cells.{Kept, Cell, fresh, under_way, stopped, active, marked, suspended, value_of, clean, is_open, is_halted, Step, Becomes}
 use Rattle.settling.specs.Cells as cells
 use Rattle.settling.specs.Spaces.{Space, is_among}
 use Rattle.settling.specs.Holding.{Reads, IsPath, IsChain, Later}
-use Rattle.settling.specs.Evaluations.{wanted, evaluated}
+use Rattle.settling.specs.Evaluations.{Outcome, has_value, has_fault, has_need, walk, written, evaluated}
 use Rattle.settling.specs.Turns.{above, Meets, enters, stops, Turns, gives_up, comes_to_end, needs}
 use Rattle.settling.specs.Loops.{has_loop, AreOnce, AreChains}
 use Rattle.settling.specs.Stacks.{AreApart, AreLinked, Stands}
@@ -113,21 +113,19 @@ module _ {S P V F : Type 0} (space : Space S P V F) (tree : P → Run P V F) whe
     pub put : t ≡ space.put s p cell
 
   pub evaluated_puts : {t : S} (p : P) (r : Run P V F) (s : S) (k : Kept V F) → space.at s p ≡ under_way k → evaluated space p r s ≡ (None, t) → Puts s p t
-  unfolding evaluated
-  evaluated_puts p (gives v) s k e h =
-      record { cell = active v; step = cells.ends k v e refl; closed = refl; halted = sym (ap is_halted e); put = sym (ap (λ (x : Option P × S). x.1) h) }
-  evaluated_puts p (faults f) s k e h = record {
-    cell = marked k.value f;
-    step = cells.fails k f e refl;
-    closed = refl;
-    halted = sym (ap is_halted e);
-    put = sym (ap (λ (x : Option P × S). x.1) h) ∙ ap (λ (c : Cell V F). space.put s p (marked (value_of c) f)) e;
-  }
-  evaluated_puts {t = t} p (asks x go) s k e h = by (clean (space.at s x)) (λ v. evaluated_puts p (go v) s k e) h
+  evaluated_puts {t = t} p r s k e h = by (walk space r s) h
     where
-      by : (o : Option V) → ((v : V) → evaluated space p (go v) s ≡ (None, t) → Puts s p t) → wanted o (Some x, s) (λ v. evaluated space p (go v) s) ≡ (None, t) → Puts s p t
-      by None next g = let place : Some x ≡ None = ap (λ (y : Option P × S). y.0) g in cc
-      by (Some v) next g = next v g
+      by : (o : Outcome P V F) → written space p s o ≡ (None, t) → Puts s p t
+      by (has_value v) w =
+          record { cell = active v; step = cells.ends k v e refl; closed = refl; halted = sym (ap is_halted e); put = sym (ap (λ (x : Option P × S). x.1) w) }
+      by (has_fault f) w = record {
+        cell = marked k.value f;
+        step = cells.fails k f e refl;
+        closed = refl;
+        halted = sym (ap is_halted e);
+        put = sym (ap (λ (x : Option P × S). x.1) w) ∙ ap (λ (c : Cell V F). space.put s p (marked (value_of c) f)) e;
+      }
+      by (has_need x) w = let place = ap (λ (y : Option P × S). y.0) w in cc
 
   gives_up_puts : {t : S} (p : P) (s : S) (k : Kept V F) → space.at s p ≡ stopped k → t ≡ space.put s p (suspended k) → Puts s p t
   gives_up_puts p s k e i = record { cell = suspended k; step = cells.suspends k e refl; closed = refl; halted = sym (ap is_halted e); put = i }

@@ -1,10 +1,8 @@
-use Rattle.std.proofs.Common.{◌≡◌, List, ◌∷◌, [], ◌++◌, map, ap, ◌∙◌, rules}
-use Rattle.std.proofs.lemmas.List.{map-append}
-use Rattle.settling.specs.Loops.{shown}
-use Rattle.settling.specs.Turns.{above}
+use Rattle.std.proofs.Common.{◌≡◌, rules}
 use Rattle.settling.specs.Phases.{phase_of}
+use Rattle.settling.specs.Turns.{above}
 use Rattle.settling.specs.declared.field.Phase.TheVariants.{Fresh, UnderWay}
-use Rattle.settling.proofs.Calls.{on_ok, enters_at, stops_at}
+use Rattle.settling.proofs.Calls.{on_ok, enters_at, stops_at, shown_push}
 use Rattle.settling.proofs.turns.meet.Goals as goal
 
 pub returns-then-eq-clause-meets : goal.returns-then-eq-clause-meets
@@ -15,7 +13,6 @@ returns-then-eq-clause-meets g c =
 pub returns-clause-meets : goal.returns-clause-meets
 returns-clause-meets g c =
     let under : phase_of (g.F.Field.space.at (g.F.Field.state c.args.field.now) c.args.place) ≡ UnderWay = search rules in
-    let pushed = c.in_ok-push.ensures.items in
-    let chain : c.in_ok-chain.chain.items ≡ above g.F.Field.space c.args.place c.args.stack.now.items = search rules in
     stops_at g.F.Field.space under c.stop.ensures.state
-    (ap (map shown) pushed ∙ map-append shown _ _ ∙ ap (λ (xs : List g.row.F-Place.Denot). map shown c.args.loops.now.items ++ (c.args.place, xs) ∷ []) chain)
+    (shown_push c.args.loops.now.items c.push.new.self.items (record { place = c.args.place; chain = c.in_ok-chain.chain })
+    (above g.F.Field.space c.args.place c.args.stack.now.items) c.in_ok-push.ensures.items (search rules))
