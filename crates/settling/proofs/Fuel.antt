@@ -6,16 +6,13 @@ use Rattle.settling.specs.Cells as cells
 use Rattle.settling.specs.Spaces.{Space, is_among}
 use Rattle.settling.specs.Settling.{Visits, Runs, Settles, done, again, first, stops, ends, fails, goes, none, more, Covers, controlled, run, entered, visit, visits, settled}
 use Rattle.settling.specs.Holding.{Later}
+use Rattle.settling.specs.Work.{total}
 use Rattle.settling.proofs.Steps.{clean_value, becomes_fresh}
 use Rattle.settling.proofs.Changes.{put_there, later_put}
 use Rattle.settling.proofs.Visited.{visits_clean, visits_later, runs_clean}
 use Rattle.settling.proofs.Once.{visits_once}
 
 -- Sums over lists of places
-
-abbrev pub total : {P : Type 0} → (P → ℕ) → List P → ℕ
-total w [] = 0
-total w (p ∷ ps) = w p + total w ps
 
 module _ {P : Type 0} where
   pub total_le : (v w : P → ℕ) → ((p : P) → v p ≤ w p) → (ps : List P) → total v ps ≤ total w ps

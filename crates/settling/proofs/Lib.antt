@@ -12,3 +12,5 @@ pub mod Standing
 pub mod Measure
 pub mod Going
 pub mod Rounds
+pub mod Paying
+pub mod Paid

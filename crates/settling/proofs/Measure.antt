@@ -11,7 +11,8 @@ use Rattle.settling.specs.Stacks.{IsWithin}
 use Rattle.settling.proofs.Changes.{put_there, later_put}
 use Rattle.settling.proofs.Resumed.{evaluated_needs}
 use Rattle.settling.proofs.Standing.{evaluated_puts}
-use Rattle.settling.proofs.Fuel.{total, total_lt}
+use Rattle.settling.specs.Work.{total}
+use Rattle.settling.proofs.Fuel.{total_lt}
 
 module _ {V F : Type 0} where
   -- how many steps a place can still take

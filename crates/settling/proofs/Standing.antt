@@ -42,7 +42,7 @@ module _ {S P V F : Type 0} (space : Space S P V F) where
       let other = other_way p q (space.are_same q p) refl parts.0 in
       (among_push ps q p ∙ or_left (is_among space ps p) (space.are_same q p) h.0 ∙ other, apart_push ps q h.1 parts.1)
 
-  apart_pop : (xs : List P) (q : P) → AreApart space (xs ++ q ∷ []) → AreApart space xs × (is_among space xs q ≡ false)
+  pub apart_pop : (xs : List P) (q : P) → AreApart space (xs ++ q ∷ []) → AreApart space xs × (is_among space xs q ≡ false)
   apart_pop [] q h = (tt, refl)
   apart_pop (p ∷ ps) q h =
       let rest = apart_pop ps q h.1 in
@@ -127,7 +127,7 @@ module _ {S P V F : Type 0} (space : Space S P V F) (tree : P → Run P V F) whe
       }
       by (has_need x) w = let place = ap (λ (y : Option P × S). y.0) w in cc
 
-  gives_up_puts : {t : S} (p : P) (s : S) (k : Kept V F) → space.at s p ≡ stopped k → t ≡ space.put s p (suspended k) → Puts s p t
+  pub gives_up_puts : {t : S} (p : P) (s : S) (k : Kept V F) → space.at s p ≡ stopped k → t ≡ space.put s p (suspended k) → Puts s p t
   gives_up_puts p s k e i = record { cell = suspended k; step = cells.suspends k e refl; closed = refl; halted = sym (ap is_halted e); put = i }
 
   -- the evaluation at the top of the stack has come to its end

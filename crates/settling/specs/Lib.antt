@@ -9,3 +9,4 @@ pub mod Laws
 pub mod Loops
 pub mod Turns
 pub mod Stacks
+pub mod Work

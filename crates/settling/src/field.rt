@@ -16,11 +16,10 @@ pub enum Phase {
 /// Places whose expressions read each other, with their values.
 ///
 /// Contracts see a `state`, in which each place has a cell, the `tree` of what each place's expression reads,
-/// and the `places` to visit, in order.
+/// the `places` to visit, in order, and a count of `evaluations`, which each one raises by one at most.
 pub trait Field {
-    ghost use Rattle.std.specs.Prelude.{◌≡◌, ◌<◌, Some, List, length, slice_get, IfOk, OnErr, true};
+    ghost use Rattle.std.specs.Prelude.{◌≡◌, ◌<◌, ◌≤◌, ℕ, suc, Some, List, length, slice_get, IfOk};
     ghost use Rattle.settling.specs.Runs.{Run};
-    ghost use Rattle.settling.specs.Cells.{is_fresh};
     ghost use Rattle.settling.specs.Spaces.{Space};
     ghost use Rattle.settling.specs.Evaluations.{evaluated};
     ghost use Rattle.settling.specs.Phases.{phase_of, Moves, begun, halted, left};
@@ -45,6 +44,8 @@ pub trait Field {
 
     ghost places: { Self → List Self.Place };
 
+    ghost evaluations: { Self → ℕ };
+
     /// Whether two names are of one place.
     fn are_same(p: Self::Place, q: Self::Place) -> bool
         ensures { result ≡ space.are_same p q };
@@ -67,21 +68,24 @@ pub trait Field {
         requires { phase_of (space.at (state self.old) place) ≡ Phase.Fresh }
         ensures state { Moves space begun (state self.old) place (state self.new) }
         ensures tree { tree self.new ≡ tree self.old }
-        ensures places { places self.new ≡ places self.old };
+        ensures places { places self.new ≡ places self.old }
+        ensures evaluations { evaluations self.new ≡ evaluations self.old };
 
     /// The place was read while its evaluation was under way.
     fn stop(&mut self, place: Self::Place)
         requires { phase_of (space.at (state self.old) place) ≡ Phase.UnderWay }
         ensures state { Moves space halted (state self.old) place (state self.new) }
         ensures tree { tree self.new ≡ tree self.old }
-        ensures places { places self.new ≡ places self.old };
+        ensures places { places self.new ≡ places self.old }
+        ensures evaluations { evaluations self.new ≡ evaluations self.old };
 
     /// The evaluation of a place that was stopped is given up. The place keeps its last value and is suspended.
     fn suspend(&mut self, place: Self::Place)
         requires { phase_of (space.at (state self.old) place) ≡ Phase.Stopped }
         ensures state { Moves space left (state self.old) place (state self.new) }
         ensures tree { tree self.new ≡ tree self.old }
-        ensures places { places self.new ≡ places self.old };
+        ensures places { places self.new ≡ places self.old }
+        ensures evaluations { evaluations self.new ≡ evaluations self.old };
 
     /// Evaluates a place whose evaluation is under way, from its beginning. At the end its value is written, or
     /// the mark of its fault. Where it reads a place that has no value yet, it answers the first such place,
@@ -92,5 +96,6 @@ pub trait Field {
         requires { phase_of (space.at (state self.old) place) ≡ Phase.UnderWay }
         ensures ok { IfOk result (λ needed. evaluated space place (tree self.old place) (state self.old) ≡ (needed, state self.new)) }
         ensures tree { tree self.new ≡ tree self.old }
-        ensures places { places self.new ≡ places self.old };
+        ensures places { places self.new ≡ places self.old }
+        ensures evaluations { evaluations self.new ≤ suc (evaluations self.old) };
 }

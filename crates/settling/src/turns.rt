@@ -2,6 +2,7 @@ ghost use Rattle.std.specs.Prelude.{◌≡◌, [], ◌∷◌, ◌++◌, true, ma
 ghost use Rattle.settling.specs.Cells.{clean, is_open};
 ghost use Rattle.settling.specs.Phases.{phase_of, Moves, begun};
 ghost use Rattle.settling.specs.Loops.{shown};
+ghost use Rattle.settling.specs.Work.{MaySpend};
 ghost use Rattle.settling.specs.Turns.{above, Meets, Turns};
 
 use crate::field::{Field, Phase};
@@ -35,6 +36,7 @@ pub(crate) fn enter<F: Field>(
     ensures stack { OnOk result (stack.new.items ≡ stack.old.items ++ place ∷ []) }
     ensures tree { F.tree field.new ≡ F.tree field.old }
     ensures places { F.places field.new ≡ F.places field.old }
+    ensures evaluations { F.evaluations field.new ≡ F.evaluations field.old }
 {
     stack.push(place)?;
     field.begin(place);
@@ -55,6 +57,7 @@ fn meet<F: Field>(
         stack.new.items (F.state field.new) (map shown loops.new.items)) }
     ensures tree { F.tree field.new ≡ F.tree field.old }
     ensures places { F.places field.new ≡ F.places field.old }
+    ensures evaluations { F.evaluations field.new ≡ F.evaluations field.old }
 {
     if field.phase(place) == Phase::Fresh {
         return enter(field, place, stack);
@@ -77,6 +80,7 @@ pub(crate) fn turn<F: Field>(
     ensures turns { OnOk result (Turns F.space (F.tree field.old) top
         stack.old.items (F.state field.old) (map shown loops.old.items)
         stack.new.items (F.state field.new) (map shown loops.new.items)) }
+    ensures spends { OnOk result (MaySpend (F.space.at (F.state field.old) top) (F.evaluations field.old) (F.evaluations field.new)) }
     ensures tree { F.tree field.new ≡ F.tree field.old }
     ensures places { F.places field.new ≡ F.places field.old }
 {

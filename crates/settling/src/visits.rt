@@ -1,9 +1,10 @@
-ghost use Rattle.std.specs.Prelude.{◌≡◌, [], map, OnOk, IfOk};
+ghost use Rattle.std.specs.Prelude.{◌≡◌, ◌+◌, ◌≤◌, [], map, OnOk, IfOk};
 ghost use Rattle.settling.specs.Cells.{is_suspended};
 ghost use Rattle.settling.specs.Settling.{settled, Covers, IsReady};
 ghost use Rattle.settling.specs.Laws.{IsSettled};
 ghost use Rattle.settling.specs.Loops.{shown, has_loop, AreOnce, AreChains};
 ghost use Rattle.settling.specs.Stacks.{Stands, IsWithin, IsVisited};
+ghost use Rattle.settling.specs.Work.{work, IsPaid};
 
 use crate::field::{Field, Phase};
 use crate::found::LoopFound;
@@ -24,6 +25,7 @@ fn visit<F: Field>(
     ensures visited { OnOk result (IsVisited F.space (F.tree field.old) (F.state field.old) place (F.state field.new)) }
     ensures stands { OnOk result (Stands F.space (F.tree field.old) [] (F.state field.new) (map shown loops.new.items)) }
     ensures empty { OnOk result (stack.new.items ≡ []) }
+    ensures paid { OnOk result (IsPaid F.space (F.tree field.old) (F.places field.old) (F.evaluations field.old) (F.state field.old) (F.evaluations field.new) [] (F.state field.new)) }
     ensures tree { F.tree field.new ≡ F.tree field.old }
     ensures places { F.places field.new ≡ F.places field.old }
 {
@@ -63,6 +65,11 @@ pub fn settle<F: Field>(
     ensures loops { IfOk result
         (λ loops. (p : F.Place) → is_suspended (F.space.at (F.state field.new) p) ≡ has_loop F.space (map shown loops.items) p) }
     ensures once { IfOk result (λ loops. AreOnce F.space (map shown loops.items)) }
+
+    // At most one evaluation for each place that was visited and one for each of its reads over the settled state.
+    ensures few { OnOk result
+        (F.evaluations field.new ≤ F.evaluations field.old
+        + work F.space (F.tree field.old) (F.places field.old) (F.state field.old) (F.state field.new)) }
 
     ensures tree { F.tree field.new ≡ F.tree field.old }
     ensures places { F.places field.new ≡ F.places field.old }

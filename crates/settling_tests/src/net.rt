@@ -71,6 +71,7 @@ enum Outcome {
 pub struct Net {
     pub rules: Items<Rule>,
     pub slots: Items<Slot>,
+    pub evaluations: usize,
 }
 
 /// What a place has as a settle begins.
@@ -101,6 +102,7 @@ impl Net {
         Ok(Net {
             rules: Items::from_slice(alloc, rules)?,
             slots: Items::from_vec(slots),
+            evaluations: 0,
         })
     }
 
@@ -225,6 +227,8 @@ impl Field for Net {
 
     ghost places = { λ net. upto (length net.slots) };
 
+    ghost evaluations = { λ net. net.evaluations };
+
     fn are_same(p: usize, q: usize) -> bool {
         p == q
     }
@@ -282,6 +286,7 @@ impl Field for Net {
     }
 
     fn evaluate(&mut self, place: usize) -> Result<Option<usize>, AllocError> {
+        self.evaluations = self.evaluations.saturating_add(1);
         let slot = self.slot(place);
         match self.walk(self.rule(place)) {
             Outcome::Is(value) => {

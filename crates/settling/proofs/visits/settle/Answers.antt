@@ -1,12 +1,14 @@
 use Rattle.std.proofs.Common.{◌≡◌, ◌∙◌, length, map, refl, ap, arith}
 use Rattle.settling.specs.Loops.{shown}
 use Rattle.settling.proofs.Rounds.{first_round, round_on, round_stands, last_round}
+use Rattle.settling.proofs.Paid.{none_paid, paid_visit, paid_work}
 use Rattle.settling.proofs.visits.settle.Goals as goal
 
 pub loop-index-init : goal.loop-index-init
 loop-index-init g c = record {
   round = first_round g.F.Field.space (g.F.Field.tree c.args.field.now) (g.F.Field.places c.args.field.now) (g.F.Field.state c.args.field.now) c.new-stack.result.items
       (map shown c.new-loops.result.items) c.requires.ready c.requires.covers c.new-stack.ensures.items (ap (map shown) c.new-loops.ensures.items);
+  paid = none_paid g.F.Field.space (g.F.Field.tree c.args.field.now) (g.F.Field.places c.args.field.now) (g.F.Field.state c.args.field.now) (g.F.Field.evaluations c.args.field.now);
   tree = refl;
   places = refl;
   count = c.count-count.ensures;
@@ -24,6 +26,10 @@ loop-index-preserved g c = record {
       c.loop-index.index c.place-place.result c.loop-index.stack.items c.visit.new.stack.items (g.F.Field.state c.loop-index.field) (g.F.Field.state c.visit.new.field)
       (map shown c.loop-index.loops.items) (map shown c.visit.new.loops.items) (g.F.Field.places c.loop-index.field) c.loop-index.invariant.tree c.loop-index.invariant.places
       c.place-place.ensures c.loop-index.invariant.round c.in_ok-visit.ensures.visited c.in_ok-visit.ensures.stands c.in_ok-visit.ensures.empty;
+  paid = paid_visit g.F.Field.space (g.F.Field.tree c.args.field.now) (g.F.Field.places c.args.field.now) (g.F.Field.tree c.loop-index.field) (g.F.Field.places c.loop-index.field)
+      (g.F.Field.state c.args.field.now) c.place-place.result (g.F.Field.state c.loop-index.field) (g.F.Field.state c.visit.new.field) (g.F.Field.evaluations c.args.field.now)
+      (g.F.Field.evaluations c.loop-index.field) (g.F.Field.evaluations c.visit.new.field) c.loop-index.invariant.tree c.loop-index.invariant.places
+      c.in_ok-visit.ensures.visited c.in_ok-visit.ensures.paid c.loop-index.invariant.paid;
   tree = c.visit.ensures.tree ∙ c.loop-index.invariant.tree;
   places = c.visit.ensures.places ∙ c.loop-index.invariant.places;
   count = c.loop-index.invariant.count;
@@ -58,3 +64,8 @@ returns-clause-once g c =
     let all : c.loop-index.index ≡ length (g.F.Field.places c.args.field.now) = omega arith in
     (last_round g.F.Field.space (g.F.Field.tree c.args.field.now) (g.F.Field.places c.args.field.now) (g.F.Field.state c.args.field.now) c.loop-index.index
     c.loop-index.stack.items (g.F.Field.state c.loop-index.field) (map shown c.loop-index.loops.items) c.requires.ready c.requires.covers all c.loop-index.invariant.round).once
+
+pub returns-clause-few : goal.returns-clause-few
+returns-clause-few g c =
+    paid_work g.F.Field.space (g.F.Field.tree c.args.field.now) (g.F.Field.places c.args.field.now) (g.F.Field.state c.args.field.now) (g.F.Field.state c.loop-index.field)
+    (g.F.Field.evaluations c.args.field.now) (g.F.Field.evaluations c.loop-index.field) c.requires.ready c.loop-index.invariant.paid
