@@ -1,0 +1,16 @@
+pub mod Steps
+pub mod Changes
+pub mod Visited
+pub mod Once
+pub mod Resumed
+pub mod Fulfilled
+pub mod Fuel
+pub mod Outcome
+pub mod Calls
+pub mod Unwinding
+pub mod Standing
+pub mod Measure
+pub mod Going
+pub mod Rounds
+pub mod Paying
+pub mod Paid

@@ -1,0 +1,12 @@
+pub mod Runs
+pub mod Cells
+pub mod Spaces
+pub mod Settling
+pub mod Holding
+pub mod Evaluations
+pub mod Phases
+pub mod Laws
+pub mod Loops
+pub mod Turns
+pub mod Stacks
+pub mod Work
