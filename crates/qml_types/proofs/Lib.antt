@@ -5,3 +5,7 @@ pub mod Texts
 pub mod Turns
 pub mod Documents
 pub mod Objects
+pub mod First
+pub mod Counting
+pub mod Counts
+pub mod Keeps

@@ -1,5 +1,5 @@
 -- The objects of a component, as the code adds them.
-use Rattle.std.proofs.Common.{◌≡◌, ◌∙◌, ℕ, map, fold, length, Option, None, Some, List, [], ◌∷◌, ◌++◌, refl, sym, ap}
+use Rattle.std.proofs.Common.{◌≡◌, ◌∙◌, ℕ, map, fold, length, Option, None, List, [], ◌∷◌, ◌++◌, refl, sym, ap}
 use Rattle.std.specs.List.{flat_map}
 use Rattle.std.specs.Option.{unwrap_or}
 use Rattle.type_table.specs.declared.built_in.BuiltIn.TheVariants as built_in
@@ -13,26 +13,27 @@ use Rattle.qml_types.specs.declared.component.HandlerDecl.{HandlerDecl}
 use Rattle.qml_types.specs.declared.component.InitDecl.{InitDecl}
 use Rattle.qml_types.specs.declared.component.MethodDecl.{MethodDecl}
 use Rattle.qml_types.specs.declared.component.ObjectDecl.{ObjectDecl, roll-ObjectDecl}
-use Rattle.qml_types.specs.declared.component.Role.{Role}
 use Rattle.qml_types.specs.declared.component.Role.TheVariants as role
 use Rattle.qml_types.specs.declared.component.SignalDecl.{SignalDecl}
+use Rattle.qml_types.specs.declared.component.Sizes.{Sizes}
 use Rattle.qml_types.specs.declared.component.SlotDecl.{SlotDecl}
 use Rattle.qml_types.specs.Known.{KnownTypes}
 use Rattle.qml_types.specs.Parts.{Part, Reading, Stand}
-use Rattle.qml_types.specs.Placed.{component_of, inner_of, object_of, with_part, with_object, slots_in, signals_in, methods_in, inits_in, handlers_in, ids_in, first_of_all}
+use Rattle.qml_types.specs.Placed.{component_of, component_with, inner_of, object_of, with_part, with_object, slots_in, signals_in, methods_in, inits_in, handlers_in, ids_in, first_of_all}
 use Rattle.qml_types.specs.Readings.{part_of, reading_of, scope_of}
 use Rattle.qml_types.specs.Scope.{Scope}
+use Rattle.qml_types.specs.Sizes.{sizes_of}
 use Rattle.qml_types.proofs.Turns.{reading_unrolled}
 
 -- a component with the objects of its root
-pub component_placed : (known : KnownTypes) (file copied : List ℕ) (reading : Reading) (start objects : List ObjectDecl) → start ≡ [] → copied ≡ file →
-    objects ≡ reading.placed known (record { file = file; owner = None; role = role.Root }) start →
-    roll-ComponentType (record { file = copied; objects = objects }) ≡ component_of known file reading
+pub component_placed : (known : KnownTypes) (file copied : List ℕ) (reading : Reading) (start objects : List ObjectDecl) (sizes : Sizes) → start ≡ [] → copied ≡ file →
+    objects ≡ reading.placed known (record { file = file; owner = None; role = role.Root }) start → sizes ≡ sizes_of objects →
+    roll-ComponentType (record { file = copied; objects = objects; sizes = sizes }) ≡ component_of known file reading
 unfolding component_of
-component_placed known file copied reading start objects fresh same all =
-    ap (λ f. roll-ComponentType (record { file = f; objects = objects })) same
-    ∙ ap (λ os. roll-ComponentType (record { file = file; objects = os }))
-    (all ∙ ap (reading.placed known (record { file = file; owner = None; role = role.Root })) fresh)
+component_placed known file copied reading start objects sizes fresh same all counted =
+    ap (λ f. roll-ComponentType (record { file = f; objects = objects; sizes = sizes })) same
+    ∙ (ap (λ n. roll-ComponentType (record { file = file; objects = objects; sizes = n })) counted
+    ∙ ap (component_with file) (all ∙ ap (reading.placed known (record { file = file; owner = None; role = role.Root })) fresh))
 
 -- an object with what its members declare
 pub object_made : (scope : Scope) (stand : Stand) (at : Span) (parts : List Part) (b : Base) (i : Option (List ℕ)) (s : List SlotDecl) (g : List SignalDecl)

@@ -1,5 +1,6 @@
 -- The order of faults, and the first of several.
-use Rattle.std.specs.Prelude.{ℕ, Option, None, Some, List, fold, if◌then◌else◌}
+use Rattle.std.specs.List.{Contains}
+use Rattle.std.specs.Prelude.{◌≡◌, ℕ, false, Option, None, Some, List, fold, if◌then◌else◌}
 use Rattle.std.specs.Ordering.{nat_cmp, ordering_then, is_lt}
 use Rattle.std.specs.declared.cmp.Ordering.{Ordering}
 use Rattle.qml_ast.specs.declared.fault.DocFault.{DocFault}
@@ -52,3 +53,8 @@ earlier (Some found) fault = if is_lt (fault_cmp fault found) then Some fault el
 -- the earliest of a fault found so far, if there is one, and these faults
 abbrev pub told : Option DocFault → List DocFault → Option DocFault
 told found faults = fold earlier found faults
+
+-- a fault is one of these, and none of them stands before it
+pub record IsFirstOf (faults : List DocFault) (fault : DocFault) : Type 0 where
+  pub one : Contains faults fault
+  pub none_before : (other : DocFault) → Contains faults other → is_lt (fault_cmp other fault) ≡ false

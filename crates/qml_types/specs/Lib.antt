@@ -9,4 +9,5 @@ pub mod Readings
 pub mod Compiled
 pub mod Mentions
 pub mod Sizes
+pub mod Sized
 pub mod Types

@@ -1,5 +1,5 @@
 -- The objects that a component declares.
-use Rattle.std.specs.Prelude.{ℕ, pos, Bool, true, false, Option, None, Some, option_map, List, [], ◌∷◌, ◌++◌, map, fold, length, if◌then◌else◌}
+use Rattle.std.specs.Prelude.{ℕ, pos, false, Option, None, Some, option_map, List, [], ◌∷◌, ◌++◌, map, fold, length, if◌then◌else◌}
 use Rattle.std.specs.List.{flat_map}
 use Rattle.std.specs.Option.{unwrap_or}
 use Rattle.type_table.specs.declared.built_in.BuiltIn.TheVariants as built_in
@@ -7,12 +7,9 @@ use Rattle.type_table.specs.declared.slot.Initial.{Initial}
 use Rattle.type_table.specs.declared.slot.Initial.TheVariants as initial
 use Rattle.type_table.specs.declared.slot.Kind.{Kind}
 use Rattle.type_table.specs.declared.slot.Kind.TheVariants as kind
-use Rattle.qml_ast.specs.declared.expr.Expr.{Expr}
-use Rattle.qml_ast.specs.declared.param.MethodParam.{MethodParam}
 use Rattle.qml_ast.specs.declared.param.SignalParam.{SignalParam}
 use Rattle.qml_ast.specs.declared.path.Path.{Path}
 use Rattle.qml_ast.specs.declared.span.Span.{Span}
-use Rattle.qml_types.specs.declared.component.Base.{Base}
 use Rattle.qml_types.specs.declared.component.Base.TheVariants as base
 use Rattle.qml_types.specs.declared.component.ComponentType.{ComponentType, roll-ComponentType}
 use Rattle.qml_types.specs.declared.component.HandlerDecl.{HandlerDecl}
@@ -27,6 +24,7 @@ use Rattle.qml_types.specs.Known.{KnownTypes, kind_named}
 use Rattle.qml_types.specs.Parts.{Reading, Stand, Given, expression, object, Part, identity, property, signal, initialiser, handler, method, child}
 use Rattle.qml_types.specs.Rules.{is_component, is_plain_component, is_wrapped, kind_in}
 use Rattle.qml_types.specs.Scope.{Scope, slot_of}
+use Rattle.qml_types.specs.Sizes.{sizes_of}
 
 -- ---- what an object declares itself
 -- what a property of this kind holds at first
@@ -91,12 +89,13 @@ first_of_all [] = None
 first_of_all (x ∷ xs) = Some x
 
 -- ---- components
+-- a component that has these objects
+abbrev pub component_with : List ℕ → List ObjectDecl → ComponentType
+component_with file objects = roll-ComponentType (record { file = file; objects = objects; sizes = sizes_of objects })
+
 -- the component whose root is this object
 unfoldable pub component_of : KnownTypes → List ℕ → Reading → ComponentType
-component_of known file reading = roll-ComponentType (record {
-  file = file;
-  objects = reading.placed known (record { file = file; owner = None; role = role.Root }) [];
-})
+component_of known file reading = component_with file (reading.placed known (record { file = file; owner = None; role = role.Root }) [])
 
 -- what a Component declares: its child
 abbrev pub inner_of : Scope → List ℕ → List Part → Option ComponentType

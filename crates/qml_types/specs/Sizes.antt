@@ -1,7 +1,11 @@
 -- How many objects and contexts a component makes, and how deep the objects stand in one another.
 use Rattle.std.specs.Prelude.{ℕ, ◌+◌, ◌-◌, ◌^◌, min, max, Option, None, Some, List, [], ◌∷◌, ◌++◌, map, sum, slice_index}
+use Rattle.std.specs.List.{sum_by}
+use Rattle.qml_types.specs.declared.component.Base.{Base, out-Base}
 use Rattle.qml_types.specs.declared.component.Base.TheOpen.{Base-F, ComponentType-F, ObjectDecl-F}
-use Rattle.qml_types.specs.declared.component.ComponentType.{ComponentType, fold-ComponentType}
+use Rattle.qml_types.specs.declared.component.ComponentType.{ComponentType, fold-ComponentType, out-ComponentType}
+use Rattle.qml_types.specs.declared.component.ObjectDecl.{ObjectDecl, out-ObjectDecl}
+use Rattle.qml_types.specs.declared.component.Sizes.{Sizes}
 
 -- ---- objects
 -- an object of a document's type is that document's root, with all that stands in it
@@ -63,3 +67,38 @@ object_level object = record { owner = object.owner; levels = object.base }
 -- object that owns the one before.
 unfoldable pub levels_made : ComponentType → ℕ
 levels_made = fold-ComponentType ℕ ℕ Level base_levels component_levels object_level
+
+-- ---- what a component type keeps
+-- these numbers, each capped at the greatest of its type
+unfoldable pub sizes_made : ComponentType → Sizes
+sizes_made component = record {
+  objects = min (objects_made component) (2 ^ 64 - 1);
+  contexts = min (contexts_made component) (2 ^ 64 - 1);
+  levels = min (levels_made component) (2 ^ 32 - 1);
+}
+
+abbrev pub layer_sizes : Base-F Base ComponentType ObjectDecl → Sizes
+layer_sizes (Base-F.BuiltIn t) = record { objects = 1; contexts = 0; levels = 1 }
+layer_sizes (Base-F.Document component) = (out-ComponentType component).sizes
+
+-- the sizes of what is made of this first: those that a document's component type keeps
+unfoldable pub sizes_on : Base → Sizes
+sizes_on base = layer_sizes (out-Base base)
+
+abbrev pub objects_on : ObjectDecl → ℕ
+objects_on object = (sizes_on (out-ObjectDecl object).base).objects
+
+abbrev pub contexts_on : ObjectDecl → ℕ
+contexts_on object = (sizes_on (out-ObjectDecl object).base).contexts
+
+abbrev pub level_on : ObjectDecl → Level
+level_on object = record { owner = (out-ObjectDecl object).owner; levels = (sizes_on (out-ObjectDecl object).base).levels }
+
+-- The sizes of a component that has these objects, by what the types keep on which they stand. Where those keep
+-- their numbers capped, so does this one.
+unfoldable pub sizes_of : List ObjectDecl → Sizes
+sizes_of objects = record {
+  objects = min (sum_by objects_on objects) (2 ^ 64 - 1);
+  contexts = min (sum_by contexts_on objects + 1) (2 ^ 64 - 1);
+  levels = min (greatest [] (map level_on objects)) (2 ^ 32 - 1);
+}

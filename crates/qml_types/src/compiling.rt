@@ -1,4 +1,6 @@
+ghost use Rattle.std.specs.Prelude.{IfOk};
 ghost use Rattle.qml_types.specs.Compiled.{compiled, Gives};
+ghost use Rattle.qml_types.specs.Sized.{IsSized};
 
 use crate::component::ComponentType;
 use crate::document_rules::component_faults;
@@ -8,7 +10,8 @@ use qml_ast::{DocFault, Document, Name};
 use std::alloc::Global;
 
 /// The component type that a document declares, whose file has that name, where `known` has the document
-/// types that can be named. The name decides nothing but the component type's `file`.
+/// types that can be named. The name decides nothing but the component type's `file`. The component type keeps
+/// its sizes.
 ///
 /// # Errors
 ///
@@ -26,15 +29,17 @@ use std::alloc::Global;
 /// - `WrongLiteral`: the property does not take a literal of this kind, or no object.
 /// - `ReadOnly`: documents do not initialise the property.
 /// - `NoMemory`: memory ran out.
-#[tactic(auto, unfolding(crate::specs::Compiled::compiled))]
+#[tactic(auto, using(crate::proofs::Keeps::component_sized), unfolding(crate::specs::Compiled::compiled))]
 pub fn compile(
     alloc: Global,
     file: &Name,
     document: &Document,
     known: &Known,
 ) -> Result<ComponentType, DocFault>
-    ensures { Gives (compiled file.now document.now known.now) result }
+    ensures declared { Gives (compiled file.now document.now known.now) result }
+    ensures sized { IfOk result IsSized }
 {
+    known.sized();
     let mut first = None;
     component_faults(alloc, known, &document.root, &mut first)?;
     match first {

@@ -113,6 +113,18 @@ pub struct ObjectDecl {
     pub span: Span,
 }
 
+/// How much one making of a component makes. Each number is capped at the greatest of its type.
+#[derive(Clone, Copy)]
+pub struct Sizes {
+    /// The objects.
+    pub objects: u64,
+    /// The contexts: one for the component, and those of the documents on whose types its objects stand.
+    pub contexts: u64,
+    /// The levels on which the objects stand: 1 where the root owns no object, and one more for each object
+    /// that owns the one before.
+    pub levels: u32,
+}
+
 /// What a document declares, or an inline `Component` in it: the objects that are made together, with one
 /// another's ids in sight.
 #[cycle(component)]
@@ -123,4 +135,6 @@ pub struct ComponentType {
     /// The objects, each before those in it, and those in the order of the source. What an inline
     /// `Component` declares is not among them.
     pub objects: Items<ObjectDecl>,
+    /// How much one making of it makes.
+    pub sizes: Sizes,
 }

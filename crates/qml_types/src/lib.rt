@@ -12,6 +12,7 @@ mod handling;
 mod kinds;
 pub mod known;
 mod known_type;
+pub mod laws;
 mod member_rules;
 pub mod mention;
 pub mod mentioning;
@@ -20,12 +21,15 @@ mod object_rules;
 mod object_scope;
 mod placing;
 mod scoping;
+mod sizing;
 mod type_ref;
 
 pub use compiling::compile;
 pub use component::{
-    Base, ComponentType, HandlerDecl, InitDecl, MethodDecl, ObjectDecl, Role, SignalDecl, SlotDecl,
+    Base, ComponentType, HandlerDecl, InitDecl, MethodDecl, ObjectDecl, Role, SignalDecl, Sizes,
+    SlotDecl,
 };
 pub use known::Known;
+pub use laws::first_of_all;
 pub use mention::Mention;
 pub use mentioning::mentions;

@@ -11,6 +11,7 @@ use crate::kinds::kind_named;
 use crate::known::Known;
 use crate::object_scope::ObjectScope;
 use crate::scoping::{is_wrapped, kind_under, scope_of};
+use crate::sizing::sizes_of;
 use crate::type_ref::{is_component, is_plain_component};
 use qml_ast::{Decl, Init, Member, Name, Path, Span};
 use shared_value::Shared;
@@ -31,9 +32,11 @@ pub fn component_of(
     let copied = file.copy(alloc)?;
     let mut objects = Items::new(alloc);
     place_object(alloc, known, file, None, Role::Root, decl, &mut objects)?;
+    let sizes = sizes_of(alloc, objects.as_slice())?;
     Ok(ComponentType {
         file: copied,
         objects,
+        sizes,
     })
 }
 

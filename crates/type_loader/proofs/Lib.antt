@@ -12,3 +12,4 @@ pub mod Closing
 pub mod Uniting
 pub mod Once
 pub mod Answering
+pub mod Sized

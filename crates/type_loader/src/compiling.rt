@@ -3,6 +3,7 @@ ghost use Rattle.std.specs.Option.{option_copied, option_to_list};
 ghost use Rattle.qml_ast.specs.declared.fault.LoadFault.TheVariants as load;
 ghost use Rattle.type_loader.specs.Order.{component_named, components_of, known_of, IsFaultOf, made_by, made_with};
 ghost use Rattle.qml_types.specs.Compiled.{compiled};
+ghost use Rattle.qml_types.specs.Sized.{IsSized};
 
 use crate::cycle::source_named;
 use crate::made::Made;
@@ -65,6 +66,7 @@ fn compiled(
     known: &Known,
 ) -> Result<Shared<ComponentType>, LoadFault>
     ensures made { IfOk result (λ component. compiled source.now.file source.now.document known.now ≡ Ok component) }
+    ensures sized { IfOk result IsSized }
     ensures refused { IfErr result (λ fault. fault ≢ load.NoMemory → IsFaultOf source.now.file (compiled source.now.file source.now.document known.now) fault) }
 {
     match compile(alloc, &source.file, source.document.get(), known) {

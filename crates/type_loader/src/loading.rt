@@ -1,7 +1,9 @@
 ghost use Rattle.std.specs.Prelude.{◌≡◌, ◌≤◌, length, Some, IfOk, IfErr};
+ghost use Rattle.std.specs.List.{All};
 ghost use Rattle.outside.specs.Count.{Rose};
 ghost use Rattle.outside.specs.Store.{Store};
 ghost use Rattle.qml_ast.specs.declared.fault.LoadFault.TheVariants as load;
+ghost use Rattle.qml_types.specs.Sized.{IsSized};
 ghost use Rattle.type_loader.specs.Entries.{IsSound};
 ghost use Rattle.type_loader.specs.Loads.{IsLoaded, IsToldFault, IsUnloaded};
 ghost use Rattle.type_loader.specs.Naming.{file_of};
@@ -36,6 +38,8 @@ use std::alloc::Global;
 /// by mentions, and this is the first in the list. `Doc`: a document does not compile, with its fault. In
 /// the place of each of them may stand `Read`, where a file could not be read, and `NoMemory`.
 ///
+/// Each component type of a unit keeps its sizes.
+///
 /// After each answer but `NoMemory` the cache has what it had and each document of the list that was
 /// parsed; after a unit these are all.
 ///
@@ -52,6 +56,7 @@ pub fn load<F: Files>(
     ensures loaded { IfOk result (IsLoaded (F.held files.old) cache.old cache.new files.old files.new name.now) }
     ensures unloaded { IfErr result (IsUnloaded (F.held files.old) cache.old cache.new files.old files.new
         (F.faults files.old) (F.faults files.new) name.now) }
+    ensures sized { IfOk result (λ unit. All IsSized unit.components) }
 
     // Where the files are told and the cache has what they hold.
     ensures unit { (told : Store) → F.held files.old ≡ Some told → IsSound told cache.old → IfOk result (HasUnit told name.now) }

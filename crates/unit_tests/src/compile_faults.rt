@@ -1,34 +1,19 @@
 //! The first faults of what documents declare, and documents without one.
 
+use crate::documents::{compiled, known_as_a};
 use crate::report::{note, told_fault};
-use qml_ast::{DocFault, Name};
-use qml_parse::parse;
-use qml_types::{ComponentType, Known, compile};
-use shared_value::Shared;
+use qml_ast::DocFault;
+use qml_types::Known;
 use std::alloc::{AllocError, Global};
 use std::test::Fail;
 
-/// What a text declares.
-fn compiled(alloc: Global, text: &str, known: &Known) -> Result<ComponentType, DocFault> {
-    if text.len() > 1_000_000 {
-        return Err(DocFault::NoMemory);
-    }
-    let document = parse(alloc, text.as_bytes())?;
-    let file = Name::new(alloc, "Main.qml")?;
-    compile(alloc, &file, &document, known)
-}
-
 /// The type `A` that a text declares, and no type where there is no text.
 fn known_types(alloc: Global, text: &str) -> Result<Known, DocFault> {
-    let mut known = Known::new(alloc);
+    let none = Known::new(alloc);
     if text.is_empty() {
-        return Ok(known);
+        return Ok(none);
     }
-    let component = compiled(alloc, text, &known)?;
-    let component = Shared::new(alloc, component)?;
-    let name = Name::new(alloc, "A")?;
-    known.add(name, component)?;
-    Ok(known)
+    known_as_a(alloc, text, &none)
 }
 
 /// The fault of a text, where the first one declares `A`.

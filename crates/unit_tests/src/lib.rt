@@ -4,6 +4,10 @@
 #[cfg(test)]
 mod compile_faults;
 #[cfg(test)]
+mod counts;
+#[cfg(test)]
+mod documents;
+#[cfg(test)]
 mod mentioned;
 #[cfg(test)]
 mod report;

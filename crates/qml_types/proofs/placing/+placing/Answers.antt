@@ -1,6 +1,7 @@
-use Rattle.std.proofs.Common.{map, fold}
+use Rattle.std.proofs.Common.{◌∙◌, ap, map, fold}
 use Rattle.qml_types.specs.Placed.{with_part}
 use Rattle.qml_types.specs.Readings.{part_of, reading_of}
+use Rattle.qml_types.specs.Sizes.{sizes_of}
 use Rattle.qml_types.specs.Types.{scope_seen}
 use Rattle.qml_types.proofs.Objects.{component_placed, object_made, object_placed}
 use Rattle.qml_types.proofs.Turns.{whole_turn}
@@ -20,8 +21,8 @@ place_object-returns t c =
 
 pub component_of-returns : goal.component_of-returns
 component_of-returns t c =
-    component_placed c.args.known.now c.args.file.now c.in_ok-copied.copied (reading_of c.args.decl.now) c.new-objects.result c.place_object.new.objects
-    c.new-objects.ensures c.in_ok-copied.ensures c.in_ok-place_object.ensures
+    component_placed c.args.known.now c.args.file.now c.in_ok-copied.copied (reading_of c.args.decl.now) c.new-objects.result c.place_object.new.objects c.in_ok-sizes.sizes
+    c.new-objects.ensures c.in_ok-copied.ensures c.in_ok-place_object.ensures (c.in_ok-sizes.ensures ∙ ap sizes_of c.as_slice.ensures)
 
 pub object_of-returns : goal.object_of-returns
 object_of-returns t c =
