@@ -20,8 +20,8 @@ const MOST_KEYS: usize = 6;
 /// changed since its nodes were brought up to date. Beside them stand the keys of nodes whose items are
 /// gone. Contracts see it as these, with the dirty items in the order in which they were marked.
 ///
-/// Only `new` and `put` take memory. Each call on an item takes one look-up, and otherwise the same time
-/// however many items there are.
+/// Only `new` and `put` take memory. Each other call on an item takes one look-up, and otherwise the same
+/// time however many items there are.
 #[derive(Drop)]
 pub struct Scene {
     items: Items,
