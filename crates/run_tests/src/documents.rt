@@ -106,24 +106,76 @@ fn documents_that_are_refused(rt: HostRuntime) -> Result<(), Fail> {
 
 /// A main document, the document `A.qml`, and what is told of the two.
 const UNITS: [(&str, &str, &str); 18] = [
-    ("Item { A { } }", "Rectangle { z: 1 }", "A.qml:1:13: unsupported"),
-    ("Item { z: 1; A { } }", "Item { z: 1 }", "Main.qml:1:8: unsupported"),
+    (
+        "Item { A { } }",
+        "Rectangle { z: 1 }",
+        "A.qml:1:13: unsupported",
+    ),
+    (
+        "Item { z: 1; A { } }",
+        "Item { z: 1 }",
+        "Main.qml:1:8: unsupported",
+    ),
     ("Item { B { } }", "Item { }", "Main.qml:1:8: unknown type"),
-    ("Item { A { } }", "Item { B { } }", "A.qml:1:8: unknown type"),
-    ("Item { A { } B { } }", "Item { B { } }", "Main.qml:1:14: unknown type"),
+    (
+        "Item { A { } }",
+        "Item { B { } }",
+        "A.qml:1:8: unknown type",
+    ),
+    (
+        "Item { A { } B { } }",
+        "Item { B { } }",
+        "Main.qml:1:14: unknown type",
+    ),
     ("Item { A { } B { } }", "Item {", "A.qml:1:7: syntax"),
     ("Item { A { } }", "Item { A { } }", "A.qml: cycle"),
-    ("Item { property A a }", "Item { property A a }", "A.qml: cycle"),
+    (
+        "Item { property A a }",
+        "Item { property A a }",
+        "A.qml: cycle",
+    ),
     ("Item { Main { } }", "Item { }", "Main.qml: cycle"),
     ("Item { A { } }", "Item { Main { } }", "Main.qml: cycle"),
-    ("Item { A { } z: 1 }", "Item { x: \"a\" }", "A.qml:1:11: wrong literal"),
-    ("Item { x: \"a\"; A { } }", "Item { id: B }", "A.qml:1:12: bad id"),
-    ("Item { A { y: 1 } }", "QtObject { }", "Main.qml:1:12: unknown property"),
-    ("Item { A { a: true } }", "Item { property int a }", "Main.qml:1:15: wrong literal"),
-    ("A { property int a }", "Item { property int a }", "Main.qml:1:18: duplicate name"),
-    ("A { a: 1 }", "Item { readonly property int a: 2 }", "Main.qml:1:5: read only"),
-    ("A { id: a; A { id: a } }", "Item { }", "Main.qml:1:20: duplicate id"),
-    ("A { Item { id: a } }", "Item { id: a; Timer { } }", "A.qml:1:15: unsupported"),
+    (
+        "Item { A { } z: 1 }",
+        "Item { x: \"a\" }",
+        "A.qml:1:11: wrong literal",
+    ),
+    (
+        "Item { x: \"a\"; A { } }",
+        "Item { id: B }",
+        "A.qml:1:12: bad id",
+    ),
+    (
+        "Item { A { y: 1 } }",
+        "QtObject { }",
+        "Main.qml:1:12: unknown property",
+    ),
+    (
+        "Item { A { a: true } }",
+        "Item { property int a }",
+        "Main.qml:1:15: wrong literal",
+    ),
+    (
+        "A { property int a }",
+        "Item { property int a }",
+        "Main.qml:1:18: duplicate name",
+    ),
+    (
+        "A { a: 1 }",
+        "Item { readonly property int a: 2 }",
+        "Main.qml:1:5: read only",
+    ),
+    (
+        "A { id: a; A { id: a } }",
+        "Item { }",
+        "Main.qml:1:20: duplicate id",
+    ),
+    (
+        "A { Item { id: a } }",
+        "Item { id: a; Timer { } }",
+        "A.qml:1:15: unsupported",
+    ),
 ];
 
 #[test]
@@ -131,7 +183,11 @@ fn units_that_are_refused(rt: HostRuntime) -> Result<(), Fail> {
     for (main, other, told) in UNITS {
         let given = Given {
             words: &["Main.qml", "script.txt"],
-            files: &[("Main.qml", main), ("A.qml", other), ("script.txt", "frame")],
+            files: &[
+                ("Main.qml", main),
+                ("A.qml", other),
+                ("script.txt", "frame"),
+            ],
             failing: 0,
             room: 0,
         };

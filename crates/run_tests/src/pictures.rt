@@ -111,7 +111,10 @@ fn children_move_with_their_parents(rt: HostRuntime) -> Result<(), Fail> {
 
 /// A main document and the document `A.qml`, which together show two red pixels.
 const RED_UNITS: [(&str, &str); 12] = [
-    ("A { }", r##"Rectangle { width: 2; height: 1; color: "red" }"##),
+    (
+        "A { }",
+        r##"Rectangle { width: 2; height: 1; color: "red" }"##,
+    ),
     (
         r##"A { width: 2; height: 1; color: "#F00" }"##,
         r##"Rectangle { x: 0; width: 9; height: 9; color: "blue" }"##,
