@@ -163,7 +163,7 @@ const RED_UNITS: [(&str, &str); 12] = [
     ),
 ];
 
-fn is_drawn_of(alloc: Global, main: &str, other: &str) -> Result<bool, AllocError> {
+fn is_drawn_of<'a>(alloc: Global, main: &'a str, other: &'a str) -> Result<bool, AllocError> {
     let given = Given {
         words: &["Main.qml", "script.txt"],
         files: &[
