@@ -9,7 +9,7 @@ END = object()
 SAME_LINE = object()
 
 PLAIN_NAMES = "a b c foo parent width anchors border x _ _a1 on onX component".split()
-UPPER_NAMES = "A B Page Component Qt Math".split()
+UPPER_NAMES = "A B Item Component Qt Math".split()
 WORDS = (
     "id property readonly signal function default enum required alias import as else if while for return var let"
     " const true false null undefined switch do break continue try throw new delete typeof instanceof in void"
@@ -32,37 +32,37 @@ GAPS_OF_LINES = ["\n"] * 4 + ["\r\n", "\n\n    ", " // c\n", " /* c\n */ ", " //
 # Rows of random tokens: the tokens of which most of one are made, and the frames in which it is put at the `@`.
 ROWS = [
     (
-        'import QtQuick QtQuick2 Window Foo . . 2.15 2.05 2.16 3.15 02.0 2 1 as as Q ; ; "a.js" Page { }',
-        ["@", "import @\nItem { }", "import QtQuick @\nItem { }", "import QtQuick.@ Page { }"]
-        + ["import Foo @\nItem { }", "import QtQuick 2.15@ Page { }"],
+        'import QtQuick QtQuick2 Window Foo . . 2.15 2.05 2.16 3.15 02.0 2 1 as as Q ; ; "a.js" Item { }',
+        ["@", "import @\nItem { }", "import QtQuick @\nItem { }", "import QtQuick.@ Item { }"]
+        + ["import Foo @\nItem { }", "import QtQuick 2.15@ Item { }"],
     ),
     (
         "A A B Component a _a . . . { } on : onX foo alias true",
-        ["@", "@ { }", "Page { @ }", "Page { @ { } }", "Page { A@: 1 }", "Page { @ on b }", "Page { x: @ { } }"]
-        + ["Page { a { @ } }", "Page { a { b: @ { } } }", "Page { property @ x }", "Page { property A.@ x }"]
-        + ["Page { signal s(@ a) }", "Page { onX: @ { } }", "Page { onX: { @ { } } }"],
+        ["@", "@ { }", "Item { @ }", "Item { @ { } }", "Item { A@: 1 }", "Item { @ on b }", "Item { x: @ { } }"]
+        + ["Item { a { @ } }", "Item { a { b: @ { } } }", "Item { property @ x }", "Item { property A.@ x }"]
+        + ["Item { signal s(@ a) }", "Item { onX: @ { } }", "Item { onX: { @ { } } }"],
     ),
     (
         "id property property readonly signal function default enum required alias else on import if a b A onX"
         " : : : ; ; , ( ) { } { } . 1 a x int var",
-        ["Page { @ }", "Page { id: a\n@\n}", "Page { x: A\n@ }", "Page { a { @ } }", "Page { Component.@ }"]
-        + ["Page { property @ }", "Page { readonly @ }", "Page { signal @ }", "Page { signal s(@) }", "Page { } @"]
-        + ["Page { function @ { } }", "Page { function f(@) { } }", "Page { onX: if (a) b\n@: 1 }"]
-        + ["Page { onX: return\n@: 1 }"],
+        ["Item { @ }", "Item { id: a\n@\n}", "Item { x: A\n@ }", "Item { a { @ } }", "Item { Component.@ }"]
+        + ["Item { property @ }", "Item { readonly @ }", "Item { signal @ }", "Item { signal s(@) }", "Item { } @"]
+        + ["Item { function @ { } }", "Item { function f(@) { } }", "Item { onX: if (a) b\n@: 1 }"]
+        + ["Item { onX: return\n@: 1 }"],
     ),
     (
         "a a b a.b true null if if else else while for var let const return switch delete function this { } ; ; ( )"
         " ( ) = += ++ -- - + . 1 , ? :",
-        ["Page { onX: @ }", "Page { onX: { @ } }", "Page { onX: { a\n@ } }", "Page { onX: { a@\n++ } }"]
-        + ["Page { onX: { var @ } }", "Page { onX: { return@ } }", "Page { onX: if (a) @ }"]
-        + ["Page { onX: if (a) b; @ }", "Page { onX: if (a) @\nelse b }", "Page { onX: { if (a) b\n@\nelse c } }"]
-        + ["Page { onX: for (@) a }", "Page { onX: for (;@;) a }", "Page { onX: for (;;@) a }"]
-        + ["Page { onX: for (;;) @ }", "Page { function f() { @ } }"],
+        ["Item { onX: @ }", "Item { onX: { @ } }", "Item { onX: { a\n@ } }", "Item { onX: { a@\n++ } }"]
+        + ["Item { onX: { var @ } }", "Item { onX: { return@ } }", "Item { onX: if (a) @ }"]
+        + ["Item { onX: if (a) b; @ }", "Item { onX: if (a) @\nelse b }", "Item { onX: { if (a) b\n@\nelse c } }"]
+        + ["Item { onX: for (@) a }", "Item { onX: for (;@;) a }", "Item { onX: for (;;@) a }"]
+        + ["Item { onX: for (;;) @ }", "Item { function f() { @ } }"],
     ),
     (
         "a b a true undefined 1 'a' ( ) ( ) . . , ? : ? : - + ! * % == === < && || { [ in void if function ++ = 1.5",
-        ["Page { x: @\n}", "Page { x: a\n@\n}", "Page { x: f(@) }", "Page { x: (@) }", "Page { x: a ? @ : c }"]
-        + ["Page { x: - @\n}", "Page { onX: if (@) a }", "Page { onX: @ = 1 }"],
+        ["Item { x: @\n}", "Item { x: a\n@\n}", "Item { x: f(@) }", "Item { x: (@) }", "Item { x: a ? @ : c }"]
+        + ["Item { x: - @\n}", "Item { onX: if (@) a }", "Item { onX: @ = 1 }"],
     ),
 ]
 
@@ -111,7 +111,7 @@ class Writer:
     def document(self):
         for _ in self.some(2):
             self.put("import", "QtQuick", f"2.{self.pick('0', '2', '15', '05', '007')}", END)
-        self.put("Page")
+        self.put("Item")
         self.body(self.source.randint(1, 4))
         return self.pieces
 
@@ -486,7 +486,7 @@ def nested_document(source):
     """A document with about as many levels as are allowed, opened by some of the forms that open one."""
     wanted = MOST_LEVELS + source.randint(-1, 2)
     chosen = {kind: source.sample(forms, source.randint(1, len(forms))) for kind, forms in DESCENTS.items()}
-    kind, levels, before, behind = "member", 1, "Page { ", " }"
+    kind, levels, before, behind = "member", 1, "Item { ", " }"
     patience = source.choice([0, 5, 30, 70])
     for _ in range(4 * MOST_LEVELS):
         opened, text, inside, closing = source.choice(chosen[kind] if source.random() < 0.95 else DESCENTS[kind])
@@ -527,7 +527,7 @@ def long_expression(source):
     place = source.choice(LONG_PLACES)
     longest = source.randrange(sum(map(place.count, "ET")))
     text = ""
-    for letter in f"Page {{ {place} }}":
+    for letter in f"Item {{ {place} }}":
         if letter not in "ET":
             text += letter
             continue
@@ -555,7 +555,7 @@ def whole_document(source):
 def mutated_document(source):
     words = spelled(source, Writer(source).document())
     for _ in range(source.choice([1, 1, 1, 2, 3])):
-        words = mutated(source, words) or [("", "Page")]
+        words = mutated(source, words) or [("", "Item")]
     document = joined(words).encode()
     return with_changed_bytes(source, document) if source.random() < 0.2 else document
 
@@ -603,7 +603,7 @@ def row_of_bytes(source):
         place = source.randrange(len(row) + 1)
         wrong = source.choice([b"\xff", b"\xc3", b"\xed\xa0\x80", b"\xe2\x82", b"\xf4\x90\x80\x80"])
         row = row[:place] + wrong + row[place:]
-    before, behind = source.choice([("", ""), ("Page { x: ", "\n}"), ("Page { x: a", "b }"), ("\ufeff", "")])
+    before, behind = source.choice([("", ""), ("Item { x: ", "\n}"), ("Item { x: a", "b }"), ("\ufeff", "")])
     return before.encode() + row + behind.encode()
 
 
@@ -615,14 +615,14 @@ def row_of_text(source):
     odd += ["\\ud800", "\\uDFFF"]
     row = [source.choice(odd if source.random() < 0.08 else parts) for _ in range(source.randint(0, 6))]
     quote = source.choice("'\"")
-    return f"Page {{ x: {quote}{''.join(row)}{source.choice([quote] * 9 + [''])} }}".encode()
+    return f"Item {{ x: {quote}{''.join(row)}{source.choice([quote] * 9 + [''])} }}".encode()
 
 
 def huge_document(source):
     """Names and texts of about as many bytes as are allowed."""
     size = 65536 + source.randint(-1, 1)
     value = source.choice(["n" * size, f'"{"t" * size}"', '"' + "\\u20ac" * 21845 + "t" * (size - 65535) + '"'])
-    return f"Page {{ x: {value} }}".encode()
+    return f"Item {{ x: {value} }}".encode()
 
 
 def random_document(source):

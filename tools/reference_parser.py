@@ -649,13 +649,13 @@ def is_target(tokens):
 
 
 def judge(document):
-    """`ok` and the token of the root's type name; or the first fault and None."""
+    """`ok` and the place `L:C` of the root's type name; or the first fault and None."""
     sys.setrecursionlimit(10000)
     try:
         root = Parser(tokens_of(document)).document()
     except Fault as fault:
         return str(fault), None
-    return "ok", root
+    return "ok", f"{root.line}:{root.column}"
 
 
 def main():

@@ -1,71 +1,89 @@
-use crate::given::is_refused;
+use crate::given::{Ending, Given, ends, is_refused, repeated};
 use std::test::Fail;
 
 /// A document and what is told of it behind its name.
-const REFUSED: [(&str, &str); 15] = [
-    ("Item { }", "1:1: unsupported"),
-    ("import QtQuick 2.15\n\nItem { }", "3:1: unsupported"),
+const REFUSED: [(&str, &str); 16] = [
     ("import QtQuick 1.0\nRectangle { }", "1:8: unsupported"),
     ("import QtQuick2.15\nRectangle { }", "1:8: unsupported"),
     ("Rectangle { x: 0.5 }", "1:16: unsupported"),
-    ("Rectangle { x: 1; y: 2; x: 3 }", "1:25: unsupported"),
+    ("Rectangle { x: 1; y: 2; x: 3 }", "1:25: duplicate name"),
     ("Rectangle { x: -1 }", "1:13: unsupported"),
-    ("Rectangle { id: a; x: b }", "1:17: unsupported"),
-    ("Rectangle { color: \"red\" }", "1:13: unsupported"),
+    ("Rectangle { id: a; x: b }", "1:20: unsupported"),
     (
         "Rectangle { Rectangle { }\n Item { }\n z: 1 }",
-        "2:2: unsupported",
+        "3:2: unsupported",
     ),
     ("Rectangle { x: 1 +\n}", "2:1: syntax"),
     ("Rectangle {", "1:12: syntax"),
     ("", "1:1: syntax"),
     ("Rectangle { x: 01 }", "1:16: bad token"),
     ("Rectangle { x: 1 /* }", "1:18: bad token"),
+    ("Item { color: \"red\" }", "1:8: unknown property"),
+    ("QtObject { x: 1 }", "1:12: unknown property"),
+    ("\n\n  Timer { }", "3:3: unsupported"),
+    ("Foo { bar: 1 }", "1:1: unknown type"),
 ];
 
-/// A member in the second line of a Rectangle that does not run.
-const UNSUPPORTED: [&str; 22] = [
-    "z: 1",
-    "X: 1",
-    "x: -1",
-    "color: 1",
-    "x: \"#000000\"",
-    "color: \"red\"",
-    "color: \"#12345\"",
-    "color: \"#1234567\"",
-    "color: \"#12345g\"",
-    "color: \" 123456\"",
-    "anchors.x: 1",
-    "x: 1 + 1",
-    "x: a",
-    "x: Rectangle { }",
-    "x: true",
-    "id: a",
-    "property int x",
-    "signal s",
-    "onS: ;",
-    "function f() { }",
-    "Item { z: 1 }",
-    "Rectangles { }",
+/// A member in the second line of a Rectangle, and what is told behind that line's number.
+const MEMBERS: [(&str, &str); 51] = [
+    ("z: 1", "1: unsupported"),
+    ("X: 1", "1: unknown property"),
+    ("x: -1", "1: unsupported"),
+    ("x: 1 + 1", "1: unsupported"),
+    ("x: a", "1: unsupported"),
+    ("x: true", "4: wrong literal"),
+    ("x: \"#000000\"", "4: wrong literal"),
+    ("x: ('a')", "5: wrong literal"),
+    ("x: Rectangle { }", "4: wrong literal"),
+    ("x: 1; x: 2", "7: duplicate name"),
+    ("color: 1", "8: wrong literal"),
+    ("color: \"#12345\"", "1: unsupported"),
+    ("color: \"#1234567\"", "1: unsupported"),
+    ("color: \"#12345g\"", "1: unsupported"),
+    ("color: \" 123456\"", "1: unsupported"),
+    ("color: \"#80ff0000\"", "1: unsupported"),
+    ("color: \"transparent\"", "1: unsupported"),
+    ("color: \"nocolour\"", "1: unsupported"),
+    ("visible: true", "1: unsupported"),
+    ("objectName: \"a\"", "1: unsupported"),
+    ("anchors: 1", "1: unknown property"),
+    ("anchors.x: 1", "1: unknown property"),
+    ("anchors.margins: 1", "1: unsupported"),
+    ("anchors.fill: Item { }", "15: unsupported"),
+    ("parent: null", "1: read only"),
+    ("readonly property int a; a: 1", "26: read only"),
+    ("property int a: 1; a: 2", "20: duplicate name"),
+    ("property int a; property int a", "30: duplicate name"),
+    ("property int x", "14: duplicate name"),
+    ("property int anchors", "14: duplicate name"),
+    ("property int a: \"b\"", "17: wrong literal"),
+    ("property bool a: 1", "18: wrong literal"),
+    ("property string a: null", "20: wrong literal"),
+    ("property int a: b", "14: unsupported"),
+    ("property alias a: b", "10: unsupported"),
+    ("property Foo a", "10: unknown type"),
+    ("signal s", "8: unsupported"),
+    ("signal s(Foo a)", "10: unknown type"),
+    ("onS: ;", "1: unknown property"),
+    ("onXChanged: ;", "1: unsupported"),
+    ("Component.onCompleted: ;", "1: unsupported"),
+    ("function f() { }", "10: unsupported"),
+    ("function f(a, a) { }", "15: duplicate name"),
+    ("id: A", "5: bad id"),
+    ("id: a; id: b", "12: duplicate id"),
+    ("id: a; Item { id: a }", "19: duplicate id"),
+    ("Item { z: 1 }", "8: unsupported"),
+    ("Rectangles { }", "1: unknown type"),
+    ("MouseArea { }", "1: unsupported"),
+    ("Component { Item { } }", "1: unsupported"),
+    ("Component { }", "1: unknown property"),
 ];
-
-/// Where the name stands that a member declares, which does not begin it, or else its first column.
-fn column_of(member: &str) -> u32 {
-    match member {
-        "id: a" => 5,
-        "property int x" => 14,
-        "signal s" => 8,
-        "function f() { }" => 10,
-        _ => 1,
-    }
-}
 
 #[test]
 fn members_that_do_not_run(rt: HostRuntime) -> Result<(), Fail> {
-    for member in UNSUPPORTED {
+    for (member, told) in MEMBERS {
         let document = format!(in rt.alloc(); "Rectangle {{\n{member}\n}}")?;
-        let column = column_of(member);
-        let line = format!(in rt.alloc(); "qmlstage: Main.qml:2:{column}: unsupported\n")?;
+        let line = format!(in rt.alloc(); "qmlstage: Main.qml:2:{told}\n")?;
         assert!(rt;
             is_refused(rt.alloc(), document.as_str(), "", line.as_str(), 4)?,
             "{member}"
@@ -82,6 +100,137 @@ fn documents_that_are_refused(rt: HostRuntime) -> Result<(), Fail> {
             is_refused(rt.alloc(), document, "frame", line.as_str(), 4)?,
             "{place}"
         );
+    }
+    Ok(())
+}
+
+/// A main document, the document `A.qml`, and what is told of the two.
+const UNITS: [(&str, &str, &str); 18] = [
+    (
+        "Item { A { } }",
+        "Rectangle { z: 1 }",
+        "A.qml:1:13: unsupported",
+    ),
+    (
+        "Item { z: 1; A { } }",
+        "Item { z: 1 }",
+        "Main.qml:1:8: unsupported",
+    ),
+    ("Item { B { } }", "Item { }", "Main.qml:1:8: unknown type"),
+    (
+        "Item { A { } }",
+        "Item { B { } }",
+        "A.qml:1:8: unknown type",
+    ),
+    (
+        "Item { A { } B { } }",
+        "Item { B { } }",
+        "Main.qml:1:14: unknown type",
+    ),
+    ("Item { A { } B { } }", "Item {", "A.qml:1:7: syntax"),
+    ("Item { A { } }", "Item { A { } }", "A.qml: cycle"),
+    (
+        "Item { property A a }",
+        "Item { property A a }",
+        "A.qml: cycle",
+    ),
+    ("Item { Main { } }", "Item { }", "Main.qml: cycle"),
+    ("Item { A { } }", "Item { Main { } }", "Main.qml: cycle"),
+    (
+        "Item { A { } z: 1 }",
+        "Item { x: \"a\" }",
+        "A.qml:1:11: wrong literal",
+    ),
+    (
+        "Item { x: \"a\"; A { } }",
+        "Item { id: B }",
+        "A.qml:1:12: bad id",
+    ),
+    (
+        "Item { A { y: 1 } }",
+        "QtObject { }",
+        "Main.qml:1:12: unknown property",
+    ),
+    (
+        "Item { A { a: true } }",
+        "Item { property int a }",
+        "Main.qml:1:15: wrong literal",
+    ),
+    (
+        "A { property int a }",
+        "Item { property int a }",
+        "Main.qml:1:18: duplicate name",
+    ),
+    (
+        "A { a: 1 }",
+        "Item { readonly property int a: 2 }",
+        "Main.qml:1:5: read only",
+    ),
+    (
+        "A { id: a; A { id: a } }",
+        "Item { }",
+        "Main.qml:1:20: duplicate id",
+    ),
+    (
+        "A { Item { id: a } }",
+        "Item { id: a; Timer { } }",
+        "A.qml:1:15: unsupported",
+    ),
+];
+
+#[test]
+fn units_that_are_refused(rt: HostRuntime) -> Result<(), Fail> {
+    for (main, other, told) in UNITS {
+        let given = Given {
+            words: &["Main.qml", "script.txt"],
+            files: &[
+                ("Main.qml", main),
+                ("A.qml", other),
+                ("script.txt", "frame"),
+            ],
+            failing: 0,
+            room: 0,
+        };
+        let line = format!(in rt.alloc(); "qmlstage: {told}\n")?;
+        let ending = Ending {
+            line: line.as_str(),
+            exit: 4,
+            moves: 0,
+            bytes: 0,
+        };
+        assert!(rt; ends(rt.alloc(), &given, &ending)?, "{told}");
+    }
+    Ok(())
+}
+
+/// How many spaces stand behind the document `A.qml`, of 8 bytes, and how a run ends whose frames have no room.
+const LENGTHS: [(usize, &str, u8, usize); 2] = [
+    (1_048_568, "qmlstage: write fault\n", 6, 1),
+    (1_048_569, "qmlstage: A.qml: too long\n", 4, 0),
+];
+
+#[test]
+fn documents_as_long_as_they_may_be(rt: HostRuntime) -> Result<(), Fail> {
+    for (spaces, line, exit, moves) in LENGTHS {
+        let mut other = repeated(rt.alloc(), " ", spaces)?;
+        other.push_str("Item { }")?;
+        let given = Given {
+            words: &["Main.qml", "script.txt"],
+            files: &[
+                ("Main.qml", "Item { A { } }"),
+                ("A.qml", other.as_str()),
+                ("script.txt", "frame"),
+            ],
+            failing: 0,
+            room: 0,
+        };
+        let ending = Ending {
+            line,
+            exit,
+            moves,
+            bytes: 0,
+        };
+        assert!(rt; ends(rt.alloc(), &given, &ending)?, "{line}");
     }
     Ok(())
 }

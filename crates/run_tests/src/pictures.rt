@@ -108,3 +108,152 @@ fn children_move_with_their_parents(rt: HostRuntime) -> Result<(), Fail> {
     assert!(rt; has_nested_rows(outcome.frames.contents()));
     Ok(())
 }
+
+/// A main document and the document `A.qml`, which together show two red pixels.
+const RED_UNITS: [(&str, &str); 12] = [
+    (
+        "A { }",
+        r##"Rectangle { width: 2; height: 1; color: "red" }"##,
+    ),
+    (
+        r##"A { width: 2; height: 1; color: "#F00" }"##,
+        r##"Rectangle { x: 0; width: 9; height: 9; color: "blue" }"##,
+    ),
+    (
+        "A { x: 0; A { x: 1 } }",
+        r##"Rectangle { width: 1; height: 1; color: "#ffff0000" }"##,
+    ),
+    (
+        r##"Item { Rectangle { width: 2; height: 1; color: "red" } QtObject { A { } } }"##,
+        r##"Rectangle { width: 9; height: 9; color: "blue" }"##,
+    ),
+    (
+        r##"Item { id: first; A { id: second; Rectangle { width: 2; height: 1; color: "red" } } }"##,
+        "Item { id: first; Item { id: second } }",
+    ),
+    (
+        r##"A { Rectangle { x: 1; width: 1; height: 1; color: "red" } }"##,
+        r##"Item { Rectangle { width: 2; height: 1; color: "red" } Rectangle { x: 1; width: 1; height: 1 } }"##,
+    ),
+    (
+        r##"Rectangle { color: "red"; property A a: A { width: 9; height: 9 } height: 1; width: 2 }"##,
+        r##"Rectangle { color: "blue" }"##,
+    ),
+    (
+        r##"A { count: 2; title: 'b'; lit: false; tint: "blue"; any: 1; other: null }"##,
+        r##"Rectangle { width: 2; height: 1; color: "red"; property int count: 1; property string title
+            property bool lit; property color tint; property var any; property Item other }"##,
+    ),
+    (
+        r##"Rectangle { width: 2; height: 1; color: "red"; property real a: 1; property double b; property url c: 'd'
+            property variant e: undefined; property QtObject f: QtObject { } }"##,
+        "",
+    ),
+    (
+        r##"Item { x: (0); Rectangle { width: 2; height: 1; color: ("red") } }"##,
+        "",
+    ),
+    (
+        r##"Rectangle { width: 2; height: 1; color: "red"; Rectangle { x: 640; width: 9; height: 9; color: "blue" } }"##,
+        "",
+    ),
+    (
+        r##"Rectangle { width: 2147483647; height: 2147483647; Rectangle { width: 2; height: 1; color: "red" } }"##,
+        "",
+    ),
+];
+
+fn is_drawn_of<'a>(alloc: Global, main: &'a str, other: &'a str) -> Result<bool, AllocError> {
+    let given = Given {
+        words: &["Main.qml", "script.txt"],
+        files: &[
+            ("Main.qml", main),
+            ("A.qml", other),
+            ("script.txt", "frame"),
+        ],
+        failing: 0,
+        room: IMAGE,
+    };
+    let outcome = outcome_of(alloc, &given)?;
+    Ok(is_two_red_pixels(outcome.frames.contents()))
+}
+
+#[test]
+fn one_picture_of_two_documents(rt: HostRuntime) -> Result<(), Fail> {
+    for (main, other) in RED_UNITS {
+        assert!(rt; is_drawn_of(rt.alloc(), main, other)?, "{main}");
+    }
+    Ok(())
+}
+
+/// An image whose first two pixels are red and blue, and all others white.
+fn is_red_and_blue(image: &[u8]) -> bool {
+    image.len() == IMAGE
+        && image.starts_with(b"P6\n640 480\n255\n\xff\x00\x00\x00\x00\xff")
+        && image.iter().skip(21).all(|byte| *byte == 0xff)
+}
+
+#[test]
+fn a_document_in_another(rt: HostRuntime) -> Result<(), Fail> {
+    let given = Given {
+        words: &["Main.qml", "script.txt"],
+        files: &[
+            (
+                "Main.qml",
+                r##"Rectangle { width: 2; height: 1; color: "red"; A { x: 1 } }"##,
+            ),
+            (
+                "A.qml",
+                r##"Rectangle { width: 1; height: 1; color: "blue" }"##,
+            ),
+            ("script.txt", "frame"),
+        ],
+        failing: 0,
+        room: IMAGE,
+    };
+    let outcome = outcome_of(rt.alloc(), &given)?;
+    assert!(rt; is_red_and_blue(outcome.frames.contents()));
+    Ok(())
+}
+
+/// Documents that each make ten of the next.
+const TENFOLD: [(&str, &str); 5] = [
+    ("A.qml", "Item { B{} B{} B{} B{} B{} B{} B{} B{} B{} B{} }"),
+    ("B.qml", "Item { C{} C{} C{} C{} C{} C{} C{} C{} C{} C{} }"),
+    ("C.qml", "Item { D{} D{} D{} D{} D{} D{} D{} D{} D{} D{} }"),
+    ("D.qml", "Item { E{} E{} E{} E{} E{} E{} E{} E{} E{} E{} }"),
+    ("E.qml", "Item { }"),
+];
+
+/// A main document over these, and whether the window stays white. One `A` makes 11,111 objects.
+const CROWDS: [(&str, bool); 2] = [
+    (
+        r##"Rectangle { width: 2; height: 1; color: "red"; A{} A{} A{} A{} A{} A{} A{} A{} }"##,
+        false,
+    ),
+    (
+        r##"Rectangle { width: 2; height: 1; color: "red"; A{} A{} A{} A{} A{} A{} A{} A{} A{} }"##,
+        true,
+    ),
+];
+
+fn is_white(alloc: Global, main: &str) -> Result<bool, AllocError> {
+    let [a, b, c, d, e] = TENFOLD;
+    let given = Given {
+        words: &["Main.qml", "script.txt"],
+        files: &[("Main.qml", main), a, b, c, d, e, ("script.txt", "frame")],
+        failing: 0,
+        room: IMAGE,
+    };
+    let outcome = outcome_of(alloc, &given)?;
+    let image = outcome.frames.contents();
+    Ok(image.len() == IMAGE && image.iter().skip(15).all(|byte| *byte == 0xff))
+}
+
+#[test]
+fn a_document_of_too_many_objects(rt: HostRuntime) -> Result<(), Fail> {
+    for (main, white) in CROWDS {
+        assert!(rt; is_white(rt.alloc(), main)? == white, "{main}");
+    }
+    Ok(())
+}

@@ -24,7 +24,7 @@ const ENDINGS: [(&str, &str, u64, usize, &str, u8, usize, usize); 7] = [
         0,
     ),
     (
-        "Item { }",
+        "Row { }",
         "",
         0,
         0,
@@ -102,6 +102,56 @@ fn words_name_a_document_and_a_script(rt: HostRuntime) -> Result<(), Fail> {
         };
         assert!(rt; ends(rt.alloc(), &given, &ending)?, "{line}");
     }
+    Ok(())
+}
+
+/// The number of the fetch that fails while a document that mentions another is loaded, and the run's line.
+const FETCHES: [(u64, &str, u8); 4] = [
+    (1, "qmlstage: read fault\n", 5),
+    (2, "qmlstage: read fault\n", 5),
+    (3, "qmlstage: read fault\n", 5),
+    (4, "qmlstage: write fault\n", 6),
+];
+
+#[test]
+fn each_fetch_that_fails(rt: HostRuntime) -> Result<(), Fail> {
+    for (failing, line, exit) in FETCHES {
+        let given = Given {
+            words: &WORDS,
+            files: &[
+                ("Main.qml", "A { }"),
+                ("A.qml", RED),
+                ("script.txt", "frame"),
+            ],
+            failing,
+            room: 0,
+        };
+        let ending = Ending {
+            line,
+            exit,
+            moves: if exit == 6 { 1 } else { 0 },
+            bytes: 0,
+        };
+        assert!(rt; ends(rt.alloc(), &given, &ending)?, "{failing}");
+    }
+    Ok(())
+}
+
+#[test]
+fn a_main_document_that_is_missing(rt: HostRuntime) -> Result<(), Fail> {
+    let given = Given {
+        words: &["No.qml", "script.txt"],
+        files: &[("Main.qml", RED), ("script.txt", "")],
+        failing: 0,
+        room: 0,
+    };
+    let ending = Ending {
+        line: "qmlstage: No.qml: missing\n",
+        exit: 4,
+        moves: 0,
+        bytes: 0,
+    };
+    assert!(rt; ends(rt.alloc(), &given, &ending)?);
     Ok(())
 }
 

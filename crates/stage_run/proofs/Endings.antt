@@ -6,95 +6,94 @@ use Rattle.std.specs.Io.KnownBytes.{Appends}
 use Rattle.outside.specs.Bytes.{AppendsPart}
 use Rattle.outside.specs.Store.{Store}
 use Rattle.qml_ast.specs.declared.fault.LoadFault.{LoadFault}
-use Rattle.qml_ast.specs.declared.fault.LoadFault.TheVariants as load
-use Rattle.rect_form.specs.Tree.{Members}
 use Rattle.rect_raster.specs.Picture.{Picture, ppm}
-use Rattle.rect_raster.specs.Drawing.{drawing}
 use Rattle.stage_run.specs.declared.status.Status.{Status}
 use Rattle.stage_run.specs.declared.status.Status.TheVariants as status
-use Rattle.stage_run.specs.Causes.{HasScript, HasBadScript, HasTree, IsFaultOf, IsOfText, HasFault, RefusesDocument, Accepts, Run, IsIdle, IsPart, Ends, HasCause, IsSound, IsDoneOrNoMemory}
+use Rattle.stage_run.specs.Causes.{HasScript, HasBadScript, RefusesDocument, Accepts, Run, IsIdle, IsPart, Ends, HasCause, IsSound, IsDoneOrNoMemory}
+use Rattle.stage_run.specs.Documents.{HasFault, HasRunUnit}
 use Rattle.stage_run.specs.Flaws.{IsPrefix, StopsWriting}
 use Rattle.stage_run.specs.Moves.{commands}
-use Rattle.stage_run.specs.Painting.{painted}
+use Rattle.stage_run.specs.Shown.{picture_of}
 use Rattle.stage_run.specs.Words.{main_of, script_of}
 use Rattle.stage_run.specs.Written.{image_of, copies, written}
 use Rattle.stage_run.proofs.OneAnswer.{no_fault_of}
 use Rattle.stage_run.proofs.ScriptLemmas.{script_is_good}
 use Rattle.stage_run.proofs.WrittenFrames.{written-commands}
+use Rattle.type_loader.specs.declared.unit.Unit.{Unit as UnitOf}
 
 -- the two files that the words name
-pub accepted : (held after : Option Store) (words : List (List ℕ)) (script main : List ℕ) (count : ℕ) (tree : Members)
+pub accepted : (held after : Option Store) (words : List (List ℕ)) (script main : List ℕ) (count : ℕ) (unit : UnitOf)
     → script ≡ script_of words → main ≡ main_of words → after ≡ held
-    → IfSome held (λ files. HasScript (get files script) count) → IfSome after (λ files. HasTree (get files main) tree) → Accepts held words count tree
-accepted held after words script main count tree e f same has_script has_tree =
-    let P : Option Store → Type 0 = λ h. IfSome h (λ files. HasTree (get files main) tree) in
-    both held words script main count tree e f has_script (subst P same has_tree)
+    → IfSome held (λ files. HasScript (get files script) count) → IfSome after (λ files. HasRunUnit files main unit) → Accepts held words count unit
+accepted held after words script main count unit e f same has_script has_unit =
+    let P : Option Store → Type 0 = λ h. IfSome h (λ files. HasRunUnit files main unit) in
+    both held words script main count unit e f has_script (subst P same has_unit)
   where
-    both : (held : Option Store) (words : List (List ℕ)) (script main : List ℕ) (count : ℕ) (tree : Members)
+    both : (held : Option Store) (words : List (List ℕ)) (script main : List ℕ) (count : ℕ) (unit : UnitOf)
         → script ≡ script_of words → main ≡ main_of words
-        → IfSome held (λ files. HasScript (get files script) count) → IfSome held (λ files. HasTree (get files main) tree) → Accepts held words count tree
-    both None words script main count tree e f has_script has_tree = tt
-    both (Some files) words script main count tree e f has_script has_tree =
-        (subst (λ name. HasScript (get files name) count) e has_script, subst (λ name. HasTree (get files name) tree) f has_tree)
+        → IfSome held (λ files. HasScript (get files script) count) → IfSome held (λ files. HasRunUnit files main unit) → Accepts held words count unit
+    both None words script main count unit e f has_script has_unit = tt
+    both (Some files) words script main count unit e f has_script has_unit =
+        (subst (λ name. HasScript (get files name) count) e has_script, subst (λ name. HasRunUnit files name unit) f has_unit)
 
--- a canvas with a tree's drawing has its image
-pub image-drawn : (canvas : Picture) (tree : Members) → canvas ≡ drawing 640 480 (painted 0 0 tree) → ppm canvas ≡ image_of tree
+-- a canvas with a unit's picture has its image
+pub image-drawn : (canvas : Picture) (unit : UnitOf) → canvas ≡ picture_of unit → ppm canvas ≡ image_of unit
 unfolding image_of
-image-drawn canvas tree e = ap ppm e
+image-drawn canvas unit e = ap ppm e
 
-copies-written : (image : List ℕ) (tree : Members) (n : ℕ) → image ≡ image_of tree → copies image n ≡ written tree (commands n)
-copies-written image tree n e = ap (λ i. copies i n) e ∙ written-commands tree n
+copies-written : (image : List ℕ) (unit : UnitOf) (n : ℕ) → image ≡ image_of unit → copies image n ≡ written unit (commands n)
+copies-written image unit n e = ap (λ i. copies i n) e ∙ written-commands unit n
 
 -- all frames were written
-pub ended-whole : {A : Type 0} (r : Result A Status) (run : Run) (image : List ℕ) (count : ℕ) (tree : Members) → count ≤ 100000 → Accepts run.held run.words count tree → image ≡ image_of tree
+pub ended-whole : {A : Type 0} (r : Result A Status) (run : Run) (image : List ℕ) (count : ℕ) (unit : UnitOf) → count ≤ 100000 → Accepts run.held run.words count unit → image ≡ image_of unit
     → OnOk r (run.journal ≡ commands count) → OnOk r (Appends run.frames_before run.frames_after (copies image count)) → OnOk r (Ends run status.Done)
-ended-whole (Ok a) run image count tree few took e moved wrote = (
+ended-whole (Ok a) run image count unit few took e moved wrote = (
   count,
-  tree,
+  unit,
   record {
     few = few;
     accepted = took;
     moves = moved;
-    bytes = subst (Appends run.frames_before run.frames_after) (copies-written image tree count e ∙ ap (written tree) (sym moved)) wrote;
+    bytes = subst (Appends run.frames_before run.frames_after) (copies-written image unit count e ∙ ap (written unit) (sym moved)) wrote;
   },
 )
-ended-whole (Err s) run image count tree few took e moved wrote = tt
+ended-whole (Err s) run image count unit few took e moved wrote = tt
 
 -- the first frames, as a part of the run
-part_of : (run : Run) (image : List ℕ) (count : ℕ) (tree : Members) → count ≤ 100000 → Accepts run.held run.words count tree → image ≡ image_of tree
-    → IsPrefix image count run.journal run.frames_before run.frames_after → (n : ℕ) × (done : ℕ) × (t : Members) × IsPart run n done t
-part_of run image count tree few took e part = (
+part_of : (run : Run) (image : List ℕ) (count : ℕ) (unit : UnitOf) → count ≤ 100000 → Accepts run.held run.words count unit → image ≡ image_of unit
+    → IsPrefix image count run.journal run.frames_before run.frames_after → (n : ℕ) × (done : ℕ) × (u : UnitOf) × IsPart run n done u
+part_of run image count unit few took e part = (
   count,
   part.done,
-  tree,
+  unit,
   record {
     few = few;
     within = part.within;
     accepted = took;
     moves = part.moves;
-    bytes = subst (AppendsPart run.frames_before run.frames_after) (copies-written image tree part.done e ∙ ap (written tree) (sym part.moves)) part.bytes;
+    bytes = subst (AppendsPart run.frames_before run.frames_after) (copies-written image unit part.done e ∙ ap (written unit) (sym part.moves)) part.bytes;
   },
 )
 
 -- the frames stopped
-stopped_with : (run : Run) (s : Status) (image : List ℕ) (count : ℕ) (tree : Members) → count ≤ 100000 → Accepts run.held run.words count tree → image ≡ image_of tree
+stopped_with : (run : Run) (s : Status) (image : List ℕ) (count : ℕ) (unit : UnitOf) → count ≤ 100000 → Accepts run.held run.words count unit → image ≡ image_of unit
     → StopsWriting image count run.journal run.frames_before run.frames_after run.writes_before run.writes_after s → Ends run s
-stopped_with run status.Done image count tree few took e stopped = absurd stopped
-stopped_with run status.Usage image count tree few took e stopped = stopped
-stopped_with run (status.BadScript line) image count tree few took e stopped = absurd stopped
-stopped_with run (status.BadDocument fault) image count tree few took e stopped = absurd stopped
-stopped_with run status.ReadFault image count tree few took e stopped = absurd stopped
-stopped_with run status.WriteFault image count tree few took e stopped = (stopped.0, part_of run image count tree few took e stopped.1)
-stopped_with run status.NoMemory image count tree few took e stopped = inr (part_of run image count tree few took e stopped)
+stopped_with run status.Done image count unit few took e stopped = absurd stopped
+stopped_with run status.Usage image count unit few took e stopped = stopped
+stopped_with run (status.BadScript line) image count unit few took e stopped = absurd stopped
+stopped_with run (status.BadDocument fault) image count unit few took e stopped = absurd stopped
+stopped_with run status.ReadFault image count unit few took e stopped = absurd stopped
+stopped_with run status.WriteFault image count unit few took e stopped = (stopped.0, part_of run image count unit few took e stopped.1)
+stopped_with run status.NoMemory image count unit few took e stopped = inr (part_of run image count unit few took e stopped)
 
-pub ended-stopped : {A : Type 0} (r : Result A Status) (run : Run) (image : List ℕ) (count : ℕ) (tree : Members) → count ≤ 100000 → Accepts run.held run.words count tree → image ≡ image_of tree
+pub ended-stopped : {A : Type 0} (r : Result A Status) (run : Run) (image : List ℕ) (count : ℕ) (unit : UnitOf) → count ≤ 100000 → Accepts run.held run.words count unit → image ≡ image_of unit
     → IfErr r (StopsWriting image count run.journal run.frames_before run.frames_after run.writes_before run.writes_after) → IfErr r (Ends run)
-ended-stopped (Ok a) run image count tree few took e stopped = tt
-ended-stopped (Err s) run image count tree few took e stopped = stopped_with run s image count tree few took e stopped
+ended-stopped (Ok a) run image count unit few took e stopped = tt
+ended-stopped (Err s) run image count unit few took e stopped = stopped_with run s image count unit few took e stopped
 
 -- a lawful script, and beside it what the document's file has
-beside : (held : Option Store) (words : List (List ℕ)) (count : ℕ) (fault : LoadFault) → IfSome held (λ files. HasScript (get files (script_of words)) count) → IfSome held (λ files. HasFault (get files (main_of words)) fault)
-    → IfSome held (λ files. ((n : ℕ) × HasScript (get files (script_of words)) n) × HasFault (get files (main_of words)) fault)
+beside : (held : Option Store) (words : List (List ℕ)) (count : ℕ) (fault : LoadFault) → IfSome held (λ files. HasScript (get files (script_of words)) count) → IfSome held (λ files. HasFault files (main_of words) fault)
+    → IfSome held (λ files. ((n : ℕ) × HasScript (get files (script_of words)) n) × HasFault files (main_of words) fault)
 beside None words count fault script document = tt
 beside (Some files) words count fault script document = ((count, script), document)
 
@@ -106,8 +105,8 @@ ended-refused run status.Usage held script main before count idle e f g later ha
 ended-refused run (status.BadScript line) held script main before count idle e f g later has refused = absurd refused
 ended-refused run (status.BadDocument fault) held script main before count idle e f g later has refused =
     let scripted = subst (λ name. IfSome run.held (λ files. HasScript (get files name) count)) f has in
-    let flawed = subst (λ h. IfSome h (λ files. HasFault (get files (main_of run.words)) fault)) e (subst (λ name. IfSome held (λ files. HasFault (get files name) fault)) g refused.1) in
-    (idle, subst (λ name. IsFaultOf name fault) g refused.0, beside run.held run.words count fault scripted flawed)
+    let flawed = subst (λ h. IfSome h (λ files. HasFault files (main_of run.words) fault)) e (subst (λ name. IfSome held (λ files. HasFault files name fault)) g refused.1) in
+    (idle, refused.0, beside run.held run.words count fault scripted flawed)
 ended-refused run status.ReadFault held script main before count idle e f g later has refused = (idle, omega (arith, refused, later))
 ended-refused run status.WriteFault held script main before count idle e f g later has refused = absurd refused
 ended-refused run status.NoMemory held script main before count idle e f g later has refused = inl idle
@@ -118,17 +117,6 @@ not_bad None count line has bad = has
 not_bad (Some bytes) count line has (inl long) = omega arith
 not_bad (Some bytes) count line has (inr bad) = script_is_good bytes count line has.1 bad.1
 
--- a document has no fault
-no_fault : (main : List ℕ) (file : Option (List ℕ)) (tree : Members) (fault : LoadFault) → HasTree file tree → IsFaultOf main fault → HasFault file fault → ⊥
-no_fault main None tree fault has named bad = has
-no_fault main (Some bytes) tree (load.Missing name) has named bad = cc
-no_fault main (Some bytes) tree (load.TooLong name) has named bad = omega arith
-no_fault main (Some bytes) tree load.TooMany has named bad = named
-no_fault main (Some bytes) tree (load.Cycle name) has named bad = named
-no_fault main (Some bytes) tree load.Read has named bad = named
-no_fault main (Some bytes) tree load.NoMemory has named bad = named
-no_fault main (Some bytes) tree (load.Doc name fault) has named bad = subst IsOfText (no_fault_of bytes tree fault has.1 bad.1) named.1
-
 -- with sound files nothing is refused
 pub complete-cause : (run : Run) (s : Status) → HasCause run s → (files : Store) → IsSound run files → IsDoneOrNoMemory s
 complete-cause run status.Done cause files sound = tt
@@ -136,7 +124,7 @@ complete-cause run status.Usage cause files sound = cause.1 sound.words
 complete-cause run (status.BadScript line) cause files sound =
     let told = rw sound.told at cause.1.2 in not_bad (get files (script_of run.words)) sound.count line sound.script told
 complete-cause run (status.BadDocument fault) cause files sound =
-    let told = rw sound.told at cause.1.2 in no_fault (main_of run.words) (get files (main_of run.words)) sound.tree fault sound.document cause.1.1 told.1
+    let told = rw sound.told at cause.1.2 in no_fault_of files (main_of run.words) sound.unit fault sound.document told.1
 complete-cause run status.ReadFault cause files sound = sound.reads cause.1.1
 complete-cause run status.WriteFault cause files sound = sound.writes cause.1.0
 complete-cause run status.NoMemory cause files sound = tt

@@ -1,6 +1,6 @@
 pub mod Endings
-pub mod Flat
 pub mod OneAnswer
 pub mod Refusals
 pub mod ScriptLemmas
+pub mod Showing
 pub mod WrittenFrames

@@ -1,37 +1,51 @@
--- A text has one tree, or one fault beside want of memory, and never both.
-use Rattle.std.proofs.Common.{◌≡◌, ◌≢◌, List, ℕ, Option, Some, None, sym, ap, ◌∙◌, inl, inr}
-use Rattle.qml_ast.specs.declared.document.Document.{Document}
-use Rattle.qml_ast.specs.declared.fault.DocFault.{DocFault}
-use Rattle.qml_ast.specs.declared.fault.DocFault.TheVariants.{Unsupported, NoMemory}
-use Rattle.qml_ast.specs.declared.span.Span.{Span}
+-- Told files have one picture of a main document, or one fault in its place, and never both.
+use Rattle.std.proofs.Common.{◌≡◌, ◌∙◌, ℕ, List, Option, Some, None, slice_get, sym, ap, inl, inr}
+use Rattle.outside.specs.Store.{Store}
+use Rattle.qml_ast.specs.declared.fault.DocFault.TheVariants as doc
+use Rattle.qml_ast.specs.declared.fault.LoadFault.{LoadFault}
+use Rattle.qml_ast.specs.declared.fault.LoadFault.TheVariants as load
 use Rattle.qml_parse.proofs.OneReading.{one_document, one_text_fault, fault_apart}
-use Rattle.rect_form.specs.Form.{flaw_of, tree_of}
-use Rattle.rect_form.specs.Tree.{Members}
-use Rattle.stage_run.specs.Causes.{IsTextOf, IsFaulty}
+use Rattle.qml_types.specs.declared.component.ComponentType.{ComponentType, out-ComponentType}
+use Rattle.rect_raster.specs.Drawing.{drawing}
+use Rattle.stage_run.specs.Documents.{HasFault, HasRunUnit, IsUnrun}
+use Rattle.stage_run.specs.Shown.{picture_of, shown_first}
+use Rattle.type_loader.specs.declared.unit.Unit.{Unit as UnitOf}
+use Rattle.type_loader.specs.Units.{HasUnit}
+use Rattle.type_loader.proofs.Once.{faults_once, never_both, units_once}
+use Rattle.unit_picture.specs.declared.unrun.Unrun.{Unrun}
+use Rattle.unit_picture.specs.Unrun.{first_unrun}
 
-pub same_tree : (bytes : List ℕ) (first second : Members) → IsTextOf bytes first → IsTextOf bytes second → first ≡ second
-same_tree bytes first second a b =
-    a.is ∙ (ap (λ (d : Document). tree_of d.root) (one_document bytes a.document b.document a.spelled b.spelled) ∙ sym b.is)
+same_components : (files : Store) (main : List ℕ) (first second : UnitOf) → HasUnit files main first → HasUnit files main second → first.components ≡ second.components
+same_components files main first second a b = (units_once one_document one_text_fault fault_apart files main first second a b).1
 
-same_place : (f : Option Span) (a b : Span) → f ≡ Some a → f ≡ Some b → a ≡ b
-same_place f a b e g = let both : ◌≡◌ {A = Option Span} (Some a) (Some b) = sym e ∙ g in ap (λ (o : Option Span). elim o [ Some s ↦ s | None ↦ a ]) both
+pub same_picture : (files : Store) (main : List ℕ) (first second : UnitOf) → HasRunUnit files main first → HasRunUnit files main second → picture_of first ≡ picture_of second
+unfolding picture_of
+same_picture files main first second a b = ap (λ cs. drawing 640 480 (shown_first cs)) (same_components files main first second a.has b.has)
 
-not_flawed : (f : Option Span) (at : Span) → f ≡ None → f ≡ Some at → ⊥
-not_flawed f at e g = let both : ◌≡◌ {A = Option Span} None (Some at) = sym e ∙ g in cc
+same_some : {A : Type 0} (o : Option A) (x y : A) → o ≡ Some x → o ≡ Some y → x ≡ y
+same_some o x y e f = let both : ◌≡◌ {A = Option _} (Some x) (Some y) = sym e ∙ f in cc
 
-pub no_fault_of : (bytes : List ℕ) (tree : Members) (fault : DocFault) → IsTextOf bytes tree → IsFaulty bytes fault → fault ≡ NoMemory
-no_fault_of bytes tree fault a (inl faulty) = fault_apart bytes a.document fault a.spelled faulty
-no_fault_of bytes tree fault a (inr flawed) =
-    let b = flawed.2 in
-    let same = ap (λ (d : Document). flaw_of d.root) (one_document bytes a.document b.document a.spelled b.spelled) in
-    absurd (not_flawed (flaw_of (b.document).root) flawed.0 (sym same ∙ a.sound) b.flaw)
+-- documents have one first place that isn't run
+same_unrun : (first second : List ComponentType) (e f : LoadFault) → first ≡ second → IsUnrun first e → IsUnrun second f → e ≡ f
+same_unrun first second e f same a b =
+    let place : a.place ≡ b.place = same_some (first_unrun second) a.place b.place (ap first_unrun (sym same) ∙ a.first) b.first in
+    let component : a.component ≡ b.component = same_some (slice_get second b.place.document) a.component b.component
+    (ap (λ (p : Unrun). slice_get second p.document) (sym place) ∙ (ap (λ cs. slice_get cs a.place.document) (sym same) ∙ a.stands)) b.stands in
+    a.told
+    ∙ (ap (λ (p : Unrun). load.Doc (out-ComponentType a.component).file (doc.Unsupported p.at)) place
+    ∙ (ap (λ c. load.Doc (out-ComponentType c).file (doc.Unsupported b.place.at)) component ∙ sym b.told))
 
-pub same_fault : (bytes : List ℕ) (first second : DocFault) → IsFaulty bytes first → IsFaulty bytes second → first ≢ NoMemory → second ≢ NoMemory → first ≡ second
-same_fault bytes first second (inl f) (inl g) some some_too = one_text_fault bytes first second f g some some_too
-same_fault bytes first second (inl f) (inr g) some some_too = absurd (some (fault_apart bytes (g.2).document first (g.2).spelled f))
-same_fault bytes first second (inr f) (inl g) some some_too = absurd (some_too (fault_apart bytes (f.2).document second (f.2).spelled g))
-same_fault bytes first second (inr f) (inr g) some some_too =
-    let a = f.2 in
-    let b = g.2 in
-    let same = ap (λ (d : Document). flaw_of d.root) (one_document bytes a.document b.document a.spelled b.spelled) in
-    f.1 ∙ (ap Unsupported (same_place (flaw_of (a.document).root) f.0 g.0 a.flaw (same ∙ b.flaw)) ∙ sym g.1)
+all_or_one : (first second : List ComponentType) (fault : LoadFault) → first ≡ second → first_unrun first ≡ None → IsUnrun second fault → ⊥
+all_or_one first second fault same all a =
+    let both : ◌≡◌ {A = Option Unrun} None (Some a.place) = sym all ∙ (ap first_unrun same ∙ a.first) in cc
+
+pub no_fault_of : (files : Store) (main : List ℕ) (unit : UnitOf) (fault : LoadFault) → HasRunUnit files main unit → HasFault files main fault → ⊥
+no_fault_of files main unit fault a (inl f) = never_both one_document one_text_fault fault_apart files main unit fault a.has f
+no_fault_of files main unit fault a (inr b) = all_or_one unit.components (b.unit).components fault (same_components files main unit b.unit a.has b.has) a.all_run b.unrun
+
+pub same_fault : (files : Store) (main : List ℕ) (first second : LoadFault) → HasFault files main first → HasFault files main second → first ≡ second
+same_fault files main first second (inl f) (inl g) = faults_once one_document one_text_fault fault_apart files main first second f g
+same_fault files main first second (inl f) (inr b) = absurd (never_both one_document one_text_fault fault_apart files main b.unit first b.has f)
+same_fault files main first second (inr a) (inl g) = absurd (never_both one_document one_text_fault fault_apart files main a.unit second a.has g)
+same_fault files main first second (inr a) (inr b) =
+    same_unrun (a.unit).components (b.unit).components first second (same_components files main a.unit b.unit a.has b.has) a.unrun b.unrun

@@ -1,99 +1,94 @@
--- Refusals of the steps, put together.
-use Rattle.std.proofs.Common.{◌≡◌, ℕ, ◌≤◌, List, length, Option, None, Some, refl, sym, subst, inl, inr}
-use Rattle.std.specs.Prelude.{IfSome, IfOk, IfErr, Result, Ok, Err}
-use Rattle.std.specs.FinMap.{get}
+-- Why there is no unit of which all is run.
+use Rattle.std.proofs.Common.{◌≡◌, ◌∙◌, ℕ, ◌<◌, List, [], length, get_or, Option, None, Some, Result, Ok, Err, refl, sym, ap, subst, inl, inr}
+use Rattle.std.proofs.lemmas.Option.{slice_get-get_or}
+use Rattle.std.specs.Prelude.{IfSome, IfOk, IfErr}
+use Rattle.outside.specs.Count.{Rose}
 use Rattle.outside.specs.Store.{Store}
-use Rattle.qml_ast.specs.declared.document.Document.{Document}
 use Rattle.qml_ast.specs.declared.fault.DocFault.{DocFault}
 use Rattle.qml_ast.specs.declared.fault.DocFault.TheVariants as doc
 use Rattle.qml_ast.specs.declared.fault.LoadFault.{LoadFault}
 use Rattle.qml_ast.specs.declared.fault.LoadFault.TheVariants as load
-use Rattle.qml_tokens.specs.Spelled.{Spells}
-use Rattle.rect_form.specs.Answers.{IsFaultFor}
-use Rattle.rect_form.specs.declared.rect.RectDecl.{RectDecl}
-use Rattle.rect_form.specs.Form.{flaw_of, tree_of}
-use Rattle.rect_form.specs.Meaning.{flattened}
-use Rattle.rect_form.specs.Tree.{Members}
-use Rattle.stage_run.specs.declared.sources.Flaw.TheVariants as flaw
+use Rattle.qml_types.specs.declared.component.ComponentType.{ComponentType, out-ComponentType}
 use Rattle.stage_run.specs.declared.status.Status.{Status}
 use Rattle.stage_run.specs.declared.status.Status.TheVariants as status
-use Rattle.stage_run.specs.Causes.{document_limit, HasFaultyText, HasFault, IsFaultOf, IsFaulty, IsOfText, IsTextOf, RefusesDocument}
-use Rattle.stage_run.specs.Flaws.{IsFlawOf, IsRefusalFor, RefusesBytes}
+use Rattle.stage_run.specs.Causes.{RefusesDocument}
+use Rattle.stage_run.specs.Documents.{HasFault, HasRunUnit, IsOfDocuments, IsUnrun}
+use Rattle.stage_run.specs.Flaws.{TellsUnrun, document_status, load_status}
+use Rattle.type_loader.specs.Entries.{Entries, IsSound}
+use Rattle.type_loader.specs.Loads.{IsToldFault}
+use Rattle.type_loader.specs.Units.{HasUnit}
+use Rattle.type_loader.specs.declared.unit.Unit.{Unit as UnitOf}
+use Rattle.unit_picture.specs.Unrun.{first_unrun}
+use Rattle.unit_picture.specs.declared.unrun.Unrun.{Unrun}
 
--- what is not run of a document is a fault of its text
-not_run : (bytes : List ℕ) (document : Document) (fault : DocFault) → Spells bytes document → IsFaultFor (flaw_of document.root) fault → IsFaulty bytes fault
-not_run bytes document (doc.Unsupported at) spelled flawed = inr (at, refl, record { document = document; spelled = spelled; flaw = flawed })
-not_run bytes document doc.NoMemory spelled flawed = inl tt
-not_run bytes document _ spelled flawed = absurd flawed
+-- what holds of all told files
+if_told : (held : Option Store) (P : Store → Type 0) → ((files : Store) → held ≡ Some files → P files) → IfSome held P
+if_told None P all = tt
+if_told (Some files) P all = all files refl
 
-pub is_refused : {A : Type 0} (bytes : List ℕ) (document : Document) (r : Result A DocFault) → Spells bytes document → IfErr r (IsFaultFor (flaw_of document.root)) → IfErr r (IsFaulty bytes)
-is_refused bytes document (Ok rects) spelled flawed = tt
-is_refused bytes document (Err fault) spelled flawed = not_run bytes document fault spelled flawed
+-- nothing that is kept differs from the files
+nothing_kept : (files : Store) (entries : Entries) → entries ≡ [] → IsSound files entries
+nothing_kept files entries none = subst (IsSound files) (sym none) (record { each = λ file document stands. absurd cc })
 
--- what is listed of a document is drawn
-pub is_drawn : (bytes : List ℕ) (document : Document) (r : Result (List RectDecl) DocFault) → Spells bytes document
-    → IfOk r (λ rects. (flaw_of document.root ≡ None) × (rects ≡ flattened None 0 (tree_of document.root)))
-    → IfOk r (λ rects. (tree : Members) × (rects ≡ flattened None 0 tree) × IsTextOf bytes tree)
-is_drawn bytes document (Ok rects) spelled listed = (tree_of document.root, listed.1, record { document = document; spelled = spelled; sound = listed.0; is = refl })
-is_drawn bytes document (Err fault) spelled listed = tt
+-- a fault of one document
+refused_by_document : (held : Option Store) (name : List ℕ) (before after : ℕ) (file : List ℕ) (fault : DocFault)
+    → ((files : Store) → held ≡ Some files → IsToldFault files name (load.Doc file fault)) → RefusesDocument held name before after (document_status file fault)
+refused_by_document held name before after file doc.NoMemory told = tt
+refused_by_document held name before after file f told =
+    (tt, if_told held (λ files. HasFault files name (load.Doc file f)) (λ files e. inl (told files e (λ same. cc) (λ same. cc))))
 
--- bytes of this fault
-refused_text : (name bytes : List ℕ) (fault : DocFault) (s : Status) → IsFlawOf name (flaw.Doc fault) s → IsOfText fault → IsFaulty bytes fault → RefusesBytes name bytes s
-refused_text name bytes fault status.Done told of_text faulty = told
-refused_text name bytes fault status.Usage told of_text faulty = told
-refused_text name bytes fault (status.BadScript line) told of_text faulty = told
-refused_text name bytes fault (status.BadDocument load_fault) told of_text faulty = (fault, told, of_text, faulty)
-refused_text name bytes fault status.ReadFault told of_text faulty = told
-refused_text name bytes fault status.WriteFault told of_text faulty = told
-refused_text name bytes fault status.NoMemory told of_text faulty = tt
+-- a fault of a load
+refused_by_load : (held : Option Store) (name : List ℕ) (before after : ℕ) (fault : LoadFault)
+    → ((files : Store) → held ≡ Some files → IsToldFault files name fault) → (fault ≡ load.Read → Rose before after) → RefusesDocument held name before after (load_status fault)
+refused_by_load held name before after (load.Doc file fault) told rose = refused_by_document held name before after file fault told
+refused_by_load held name before after load.Read told rose = rose refl
+refused_by_load held name before after load.NoMemory told rose = tt
+refused_by_load held name before after f told rose =
+    (tt, if_told held (λ files. HasFault files name f) (λ files e. inl (told files e (λ same. cc) (λ same. cc))))
 
--- a fault of a text is one that texts can have, or want of memory
-no_other : (bytes : List ℕ) (fault : DocFault) (A : Type 0) → (IsOfText fault → A) → IsFaulty bytes fault → (fault ≡ doc.NoMemory → A) → A
-no_other bytes (doc.NotUtf8 at) A turn faulty none = turn tt
-no_other bytes (doc.BadToken at) A turn faulty none = turn tt
-no_other bytes (doc.Syntax at) A turn faulty none = turn tt
-no_other bytes (doc.TooDeep at) A turn faulty none = turn tt
-no_other bytes (doc.Unsupported at) A turn faulty none = turn tt
-no_other bytes doc.NoMemory A turn faulty none = none refl
-no_other bytes _ A turn (inl faulty) none = absurd faulty
-no_other bytes _ A turn (inr flawed) none = absurd (let e = flawed.1 in cc)
+pub refused_loading : (held : Option Store) (name : List ℕ) (before after : ℕ) (fault : LoadFault) (kept : Entries) (s : Status) → kept ≡ [] → s ≡ load_status fault
+    → ((files : Store) → held ≡ Some files → IsSound files kept → IsToldFault files name fault) → (fault ≡ load.Read → Rose before after) → RefusesDocument held name before after s
+refused_loading held name before after fault kept s none is told rose =
+    subst (RefusesDocument held name before after) (sym is)
+    (refused_by_load held name before after fault (λ files e. told files e (nothing_kept files kept none)) rose)
 
-told_as : (name : List ℕ) (fault : DocFault) (s : Status) → IsOfText fault → IsRefusalFor name fault s → IsFlawOf name (flaw.Doc fault) s
-told_as name doc.NoMemory s of_text told = absurd of_text
-told_as name _ s of_text told = told
+-- a place that isn't run
+refused_unrun : (held : Option Store) (name : List ℕ) (before after : ℕ) (unit : UnitOf) (s : Status)
+    → ((files : Store) → held ≡ Some files → HasUnit files name unit) → TellsUnrun unit.components s → RefusesDocument held name before after s
+refused_unrun held name before after unit status.Done has tells = absurd tells
+refused_unrun held name before after unit status.Usage has tells = absurd tells
+refused_unrun held name before after unit (status.BadScript line) has tells = absurd tells
+refused_unrun held name before after unit (status.BadDocument fault) has tells = (
+  subst IsOfDocuments (sym tells.told) tt,
+  if_told held (λ files. HasFault files name fault) (λ files e. inr (record { unit = unit; has = has files e; unrun = tells })),
+)
+refused_unrun held name before after unit status.ReadFault has tells = absurd tells
+refused_unrun held name before after unit status.WriteFault has tells = absurd tells
+refused_unrun held name before after unit status.NoMemory has tells = tt
 
--- bytes that were refused by this fault
-pub refused_by : (name bytes : List ℕ) (fault : DocFault) (s : Status) → IsRefusalFor name fault s → IsFaulty bytes fault → RefusesBytes name bytes s
-refused_by name bytes fault s told faulty =
-    no_other bytes fault (RefusesBytes name bytes s) (λ of_text. refused_text name bytes fault s (told_as name fault s of_text told) of_text faulty) faulty
-    (λ none. let no_memory = subst (λ f. IsRefusalFor name f s) none told in subst (RefusesBytes name bytes) (sym no_memory) tt)
+pub if_unrun : (held : Option Store) (name : List ℕ) (before after : ℕ) (unit : UnitOf) (kept : Entries) (r : Result UnitOf Status) → kept ≡ []
+    → ((files : Store) → held ≡ Some files → IsSound files kept → HasUnit files name unit) → IfErr r (TellsUnrun unit.components) → IfErr r (RefusesDocument held name before after)
+if_unrun held name before after unit kept (Ok same) none has tells = tt
+if_unrun held name before after unit kept (Err s) none has tells =
+    refused_unrun held name before after unit s (λ files e. has files e (nothing_kept files kept none)) tells
 
--- a fault of one text of this name
-one_fault : (held : Option Store) (name bytes : List ℕ) (fault : LoadFault) (found : DocFault) → fault ≡ load.Doc name found → IsOfText found → IsFaulty bytes found
-    → length bytes ≤ document_limit → IfSome held (λ files. get files name ≡ Some bytes)
-    → IsFaultOf name fault × IfSome held (λ files. HasFault (get files name) fault)
-one_fault None name bytes fault found e of_text faulty short known = subst (λ f. IsFaultOf name f × Unit {0}) (sym e) ((refl, of_text), tt)
-one_fault (Some files) name bytes fault found e of_text faulty short known =
-    subst (λ f. IsFaultOf name f × HasFault (get files name) f) (sym e) ((refl, of_text), subst (λ file. HasFaultyText file found) (sym known) (short, faulty))
+-- a unit of which all is run
+pub if_run : (held : Option Store) (name : List ℕ) (unit : UnitOf) (kept : Entries) (r : Result UnitOf Status) → kept ≡ []
+    → ((files : Store) → held ≡ Some files → IsSound files kept → HasUnit files name unit) → IfOk r (λ same. (same ≡ unit) × (first_unrun unit.components ≡ None))
+    → IfOk r (λ same. IfSome held (λ files. HasRunUnit files name same))
+if_run held name unit kept (Ok same) none has run =
+    subst (λ u. IfSome held (λ files. HasRunUnit files name u)) (sym run.0)
+    (if_told held (λ files. HasRunUnit files name unit) (λ files e. record { has = has files e (nothing_kept files kept none); all_run = run.1 }))
+if_run held name unit kept (Err s) none has run = tt
 
--- the store's file has bytes that were refused
-refused_document : (held : Option Store) (name bytes : List ℕ) (before after : ℕ) (s : Status) → RefusesBytes name bytes s
-    → length bytes ≤ document_limit → IfSome held (λ files. get files name ≡ Some bytes) → RefusesDocument held name before after s
-refused_document held name bytes before after status.Done told short known = told
-refused_document held name bytes before after status.Usage told short known = told
-refused_document held name bytes before after (status.BadScript line) told short known = told
-refused_document held name bytes before after (status.BadDocument fault) told short known = one_fault held name bytes fault told.0 told.1 told.2 told.3 short known
-refused_document held name bytes before after status.ReadFault told short known = absurd told
-refused_document held name bytes before after status.WriteFault told short known = told
-refused_document held name bytes before after status.NoMemory told short known = tt
-
--- what follows from a refusal, whatever was answered
-pub if_refused : {A : Type 0} (P Q : Status → Type 0) (r : Result A Status) → IfErr r P → ((s : Status) → P s → Q s) → IfErr r Q
-if_refused P Q (Ok a) told turn = tt
-if_refused P Q (Err s) told turn = turn s told
-
--- the same of the bytes that a fetch left
-pub refused_fetched : (held : Option Store) (name seen out : List ℕ) (before after : ℕ) (s : Status) → seen ≡ out → (length out ≤ document_limit) × IfSome held (λ files. get files name ≡ Some out)
-    → RefusesBytes name seen s → RefusesDocument held name before after s
-refused_fetched held name seen out before after s same found told =
-    refused_document held name out before after s (subst (λ bytes. RefusesBytes name bytes s) same told) found.0 found.1
+-- the place of a document that stands there is told
+pub unrun_told : (components : List ComponentType) (place : Unrun) (item : ComponentType) (name : List ℕ) → first_unrun components ≡ Some place
+    → place.document < length components → item ≡ get_or components place.document item → name ≡ (out-ComponentType item).file
+    → IsUnrun components (load.Doc name (doc.Unsupported place.at))
+unrun_told components place item name first within stands is = record {
+  place = place;
+  first = first;
+  component = item;
+  stands = slice_get-get_or components place.document item within ∙ ap (λ c. Some c) (sym stands);
+  told = ap (λ n. load.Doc n (doc.Unsupported place.at)) is;
+}

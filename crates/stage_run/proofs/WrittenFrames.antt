@@ -4,12 +4,12 @@ use Rattle.std.specs.Io.KnownBytes.{Appends}
 use Rattle.std.proofs.lemmas.List.{append_assoc}
 use Rattle.outside.specs.Bytes.{AppendsPart}
 use Rattle.outside.proofs.Appending.{Appends-then_part}
-use Rattle.rect_form.specs.Tree.{Members}
 use Rattle.stage_run.specs.declared.journal.Move.{Move}
 use Rattle.stage_run.specs.declared.journal.Move.TheVariants.{Command}
 use Rattle.stage_run.specs.Flaws.{IsPrefix}
 use Rattle.stage_run.specs.Moves.{commands}
 use Rattle.stage_run.specs.Written.{image_of, written, copies}
+use Rattle.type_loader.specs.declared.unit.Unit.{Unit as UnitOf}
 
 commands-next : (journal after : List Move) (done : ℕ) → journal ≡ commands done → after ≡ journal ++ Command (done + 1) ∷ [] → after ≡ commands (done + 1)
 commands-next journal after done known pushed = rw add-one (pushed ∙ ap (λ moves. moves ++ Command (done + 1) ∷ []) known ∙ ap (λ n. commands done ++ Command n ∷ []) (add-one done))
@@ -24,14 +24,14 @@ prefix-next image count done journal after first mid last below known written pu
   bytes = rw add-one (Appends-then_part first mid last (copies image done) image written part);
 }
 
-written-append : (tree : Members) (first second : List Move) → written tree (first ++ second) ≡ written tree first ++ written tree second
-written-append tree [] second = refl
-written-append tree (Command n ∷ first) second = ap (λ bytes. image_of tree ++ bytes) (written-append tree first second) ∙ sym (append_assoc (image_of tree) (written tree first) (written tree second))
+written-append : (unit : UnitOf) (first second : List Move) → written unit (first ++ second) ≡ written unit first ++ written unit second
+written-append unit [] second = refl
+written-append unit (Command n ∷ first) second = ap (λ bytes. image_of unit ++ bytes) (written-append unit first second) ∙ sym (append_assoc (image_of unit) (written unit first) (written unit second))
 
 -- what the first commands write is so many copies of the image
-pub written-commands : (tree : Members) (n : ℕ) → copies (image_of tree) n ≡ written tree (commands n)
-written-commands tree zero = refl
-written-commands tree (suc n) =
-    ap (λ bytes. bytes ++ image_of tree) (written-commands tree n)
-    ∙ ap (λ bytes. written tree (commands n) ++ bytes) (sym (append-nil (image_of tree)))
-    ∙ sym (written-append tree (commands n) (Command (suc n) ∷ []))
+pub written-commands : (unit : UnitOf) (n : ℕ) → copies (image_of unit) n ≡ written unit (commands n)
+written-commands unit zero = refl
+written-commands unit (suc n) =
+    ap (λ bytes. bytes ++ image_of unit) (written-commands unit n)
+    ∙ ap (λ bytes. written unit (commands n) ++ bytes) (sym (append-nil (image_of unit)))
+    ∙ sym (written-append unit (commands n) (Command (suc n) ∷ []))

@@ -5,30 +5,19 @@ use Rattle.std.specs.Io.KnownBytes.{Keeps, Appends}
 use Rattle.outside.specs.Bytes.{AppendsPart}
 use Rattle.outside.specs.Count.{Rose}
 use Rattle.outside.specs.Store.{Store}
-use Rattle.qml_ast.specs.declared.document.Document.{Document}
-use Rattle.qml_ast.specs.declared.fault.DocFault.{DocFault}
-use Rattle.qml_ast.specs.declared.fault.DocFault.TheVariants as doc
-use Rattle.qml_ast.specs.declared.fault.LoadFault.{LoadFault}
-use Rattle.qml_ast.specs.declared.fault.LoadFault.TheVariants as load
-use Rattle.qml_ast.specs.declared.span.Span.{Span}
-use Rattle.qml_tokens.specs.Spelled.{Spells, HasFault as HasTextFault}
-use Rattle.rect_form.specs.Form.{flaw_of, tree_of}
-use Rattle.rect_form.specs.Tree.{Members}
 use Rattle.stage_run.specs.declared.journal.Move.{Move}
 use Rattle.stage_run.specs.declared.status.Status.{Status}
 use Rattle.stage_run.specs.declared.status.Status.TheVariants as status
+use Rattle.stage_run.specs.Documents.{HasRunUnit, HasFault, IsOfDocuments}
 use Rattle.stage_run.specs.Moves.{commands}
 use Rattle.stage_run.specs.Script.{IsScript, IsFirstBadLine}
 use Rattle.stage_run.specs.Words.{main_of, script_of, AreLawful}
 use Rattle.stage_run.specs.Written.{written}
+use Rattle.type_loader.specs.declared.unit.Unit.{Unit as UnitOf}
 
 -- the most bytes of a script, 4 MiB
 abbrev pub script_limit : ℕ
 script_limit = 4194304
-
--- the most bytes of a document, 1 MiB
-abbrev pub document_limit : ℕ
-document_limit = 1048576
 
 -- the file is a script of so many commands
 abbrev pub HasScript : Option (List ℕ) → ℕ → Type 0
@@ -41,71 +30,10 @@ HasBadScript None line = line ≡ 0
 HasBadScript (Some bytes) line =
     ((script_limit < length bytes) × (line ≡ 0)) ⊎ ((length bytes ≤ script_limit) × IsFirstBadLine bytes line)
 
--- the text spells a document that is drawn as this tree
-pub record IsTextOf (bytes : List ℕ) (tree : Members) : Type 0 where
-  pub document : Document
-  pub spelled : Spells bytes document
-  pub sound : flaw_of document.root ≡ None
-  pub is : tree ≡ tree_of document.root
-
--- the text spells a document that is not run yet, which shows first at this place
-pub record IsNotRun (bytes : List ℕ) (at : Span) : Type 0 where
-  pub document : Document
-  pub spelled : Spells bytes document
-  pub flaw : flaw_of document.root ≡ Some at
-
--- a fault of the text, or what is not run of the document that it spells
-abbrev pub IsFaulty : List ℕ → DocFault → Type 0
-IsFaulty bytes fault = HasTextFault bytes fault ⊎ ((at : Span) × (fault ≡ doc.Unsupported at) × IsNotRun bytes at)
-
--- the file is a document that is drawn as this tree
-abbrev pub HasTree : Option (List ℕ) → Members → Type 0
-HasTree None tree = ⊥
-HasTree (Some bytes) tree = (length bytes ≤ document_limit) × IsTextOf bytes tree
-
--- the file is a text of this fault
-abbrev pub HasFaultyText : Option (List ℕ) → DocFault → Type 0
-HasFaultyText None fault = ⊥
-HasFaultyText (Some bytes) fault = (length bytes ≤ document_limit) × IsFaulty bytes fault
-
--- the file has more bytes than a document may have
-abbrev pub IsTooLong : Option (List ℕ) → Type 0
-IsTooLong None = ⊥
-IsTooLong (Some bytes) = document_limit < length bytes
-
--- a fault that the text of a document can have
-abbrev pub IsOfText : DocFault → Type 0
-IsOfText (doc.NotUtf8 at) = Unit {0}
-IsOfText (doc.BadToken at) = Unit {0}
-IsOfText (doc.Syntax at) = Unit {0}
-IsOfText (doc.TooDeep at) = Unit {0}
-IsOfText (doc.Unsupported at) = Unit {0}
-IsOfText _ = ⊥
-
--- a fault of the document of this name, as it can be without a look into the files
-abbrev pub IsFaultOf : List ℕ → LoadFault → Type 0
-IsFaultOf main (load.Missing name) = name ≡ main
-IsFaultOf main (load.TooLong name) = name ≡ main
-IsFaultOf main (load.Doc name fault) = (name ≡ main) × IsOfText fault
-IsFaultOf main load.TooMany = ⊥
-IsFaultOf main (load.Cycle name) = ⊥
-IsFaultOf main load.Read = ⊥
-IsFaultOf main load.NoMemory = ⊥
-
--- the file has this fault
-abbrev pub HasFault : Option (List ℕ) → LoadFault → Type 0
-HasFault file (load.Missing name) = file ≡ None
-HasFault file (load.TooLong name) = IsTooLong file
-HasFault file (load.Doc name fault) = HasFaultyText file fault
-HasFault file load.TooMany = ⊥
-HasFault file (load.Cycle name) = ⊥
-HasFault file load.Read = ⊥
-HasFault file load.NoMemory = ⊥
-
--- where the files are told, the script has `count` commands and the document is this tree
-abbrev pub Accepts : Option Store → List (List ℕ) → ℕ → Members → Type 0
-Accepts held words count tree =
-    IfSome held (λ files. HasScript (get files (script_of words)) count × HasTree (get files (main_of words)) tree)
+-- where the files are told, the script has `count` commands and the main document is this unit, of which all is run
+abbrev pub Accepts : Option Store → List (List ℕ) → ℕ → UnitOf → Type 0
+Accepts held words count unit =
+    IfSome held (λ files. HasScript (get files (script_of words)) count × HasRunUnit files (main_of words) unit)
 
 -- why there are no commands: what the script's file has, or a failed read
 abbrev pub RefusesScript : Option Store → List ℕ → ℕ → ℕ → Status → Type 0
@@ -117,12 +45,12 @@ RefusesScript held name before after status.ReadFault = Rose before after
 RefusesScript held name before after status.WriteFault = ⊥
 RefusesScript held name before after status.NoMemory = Unit {0}
 
--- why there is no document: a fault of the document's file, or a failed read
+-- why there is no unit of which all is run: a fault of the documents, or a failed read
 abbrev pub RefusesDocument : Option Store → List ℕ → ℕ → ℕ → Status → Type 0
 RefusesDocument held name before after status.Done = ⊥
 RefusesDocument held name before after status.Usage = ⊥
 RefusesDocument held name before after (status.BadScript line) = ⊥
-RefusesDocument held name before after (status.BadDocument fault) = IsFaultOf name fault × IfSome held (λ files. HasFault (get files name) fault)
+RefusesDocument held name before after (status.BadDocument fault) = IsOfDocuments fault × IfSome held (λ files. HasFault files name fault)
 RefusesDocument held name before after status.ReadFault = Rose before after
 RefusesDocument held name before after status.WriteFault = ⊥
 RefusesDocument held name before after status.NoMemory = Unit {0}
@@ -145,33 +73,33 @@ pub record IsIdle (r : Run) : Type 0 where
   pub no_moves : r.journal ≡ []
   pub no_bytes : Keeps r.frames_before r.frames_after
 
--- every command of an accepted script was applied, and the frames are those of an accepted document
-pub record IsWhole (r : Run) (count : ℕ) (tree : Members) : Type 0 where
+-- every command of an accepted script was applied, and the frames are those of an accepted unit
+pub record IsWhole (r : Run) (count : ℕ) (unit : UnitOf) : Type 0 where
   pub few : count ≤ 100000
-  pub accepted : Accepts r.held r.words count tree
+  pub accepted : Accepts r.held r.words count unit
   pub moves : r.journal ≡ commands count
-  pub bytes : Appends r.frames_before r.frames_after (written tree r.journal)
+  pub bytes : Appends r.frames_before r.frames_after (written unit r.journal)
 
 -- the first commands of an accepted script were applied, and a prefix of their frames was written
-pub record IsPart (r : Run) (count done : ℕ) (tree : Members) : Type 0 where
+pub record IsPart (r : Run) (count done : ℕ) (unit : UnitOf) : Type 0 where
   pub few : count ≤ 100000
   pub within : done ≤ count
-  pub accepted : Accepts r.held r.words count tree
+  pub accepted : Accepts r.held r.words count unit
   pub moves : r.journal ≡ commands done
-  pub bytes : AppendsPart r.frames_before r.frames_after (written tree r.journal)
+  pub bytes : AppendsPart r.frames_before r.frames_after (written unit r.journal)
 
 -- the cause of each status, after lawful words
 abbrev pub Ends : Run → Status → Type 0
-Ends r status.Done = (count : ℕ) × (tree : Members) × IsWhole r count tree
+Ends r status.Done = (count : ℕ) × (unit : UnitOf) × IsWhole r count unit
 Ends r status.Usage = ⊥
 Ends r (status.BadScript line) =
     IsIdle r × (line ≤ 100001) × IfSome r.held (λ files. HasBadScript (get files (script_of r.words)) line)
 Ends r (status.BadDocument fault) =
-    IsIdle r × IsFaultOf (main_of r.words) fault
-    × IfSome r.held (λ files. ((count : ℕ) × HasScript (get files (script_of r.words)) count) × HasFault (get files (main_of r.words)) fault)
+    IsIdle r × IsOfDocuments fault
+    × IfSome r.held (λ files. ((count : ℕ) × HasScript (get files (script_of r.words)) count) × HasFault files (main_of r.words) fault)
 Ends r status.ReadFault = IsIdle r × Rose r.reads_before r.reads_after
-Ends r status.WriteFault = Rose r.writes_before r.writes_after × ((count : ℕ) × (done : ℕ) × (tree : Members) × IsPart r count done tree)
-Ends r status.NoMemory = IsIdle r ⊎ ((count : ℕ) × (done : ℕ) × (tree : Members) × IsPart r count done tree)
+Ends r status.WriteFault = Rose r.writes_before r.writes_after × ((count : ℕ) × (done : ℕ) × (unit : UnitOf) × IsPart r count done unit)
+Ends r status.NoMemory = IsIdle r ⊎ ((count : ℕ) × (done : ℕ) × (unit : UnitOf) × IsPart r count done unit)
 
 -- the words aren't lawful and nothing moved, or they are and the status has its cause
 abbrev pub HasCause : Run → Status → Type 0
@@ -193,14 +121,14 @@ IsDoneOrNoMemory status.ReadFault = ⊥
 IsDoneOrNoMemory status.WriteFault = ⊥
 IsDoneOrNoMemory status.NoMemory = Unit {0}
 
--- told files with a lawful script and an accepted document, and no read or write that failed
+-- told files with a lawful script and a main document of which all is run, and no read or write that failed
 pub record IsSound (r : Run) (files : Store) : Type 0 where
   pub told : r.held ≡ Some files
   pub words : AreLawful r.words
   pub count : ℕ
   pub script : HasScript (get files (script_of r.words)) count
-  pub tree : Members
-  pub document : HasTree (get files (main_of r.words)) tree
+  pub unit : UnitOf
+  pub document : HasRunUnit files (main_of r.words) unit
   pub reads : Rose r.reads_before r.reads_after → ⊥
   pub writes : Rose r.writes_before r.writes_after → ⊥
 

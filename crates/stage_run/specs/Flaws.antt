@@ -1,4 +1,4 @@
--- What the steps between a file's bytes and a refusal say.
+-- What the steps of a run say where they refuse.
 use Rattle.std.specs.Prelude.{◌≡◌, ℕ, ◌≤◌, List, Option}
 use Rattle.outside.specs.Bytes.{AppendsPart}
 use Rattle.outside.specs.Count.{Rose}
@@ -6,12 +6,11 @@ use Rattle.qml_ast.specs.declared.fault.DocFault.{DocFault}
 use Rattle.qml_ast.specs.declared.fault.DocFault.TheVariants as doc
 use Rattle.qml_ast.specs.declared.fault.LoadFault.{LoadFault}
 use Rattle.qml_ast.specs.declared.fault.LoadFault.TheVariants as load
+use Rattle.qml_types.specs.declared.component.ComponentType.{ComponentType}
 use Rattle.stage_run.specs.declared.journal.Move.{Move}
-use Rattle.stage_run.specs.declared.sources.Flaw.{Flaw}
-use Rattle.stage_run.specs.declared.sources.Flaw.TheVariants as flaw
 use Rattle.stage_run.specs.declared.status.Status.{Status}
 use Rattle.stage_run.specs.declared.status.Status.TheVariants as status
-use Rattle.stage_run.specs.Causes.{IsFaulty, IsOfText}
+use Rattle.stage_run.specs.Documents.{IsUnrun}
 use Rattle.stage_run.specs.Moves.{commands}
 use Rattle.stage_run.specs.Written.{copies}
 use Rattle.stage_run.specs.Script.{IsFirstBadLine}
@@ -26,37 +25,27 @@ IsBadScriptAt bytes status.ReadFault = ⊥
 IsBadScriptAt bytes status.WriteFault = ⊥
 IsBadScriptAt bytes status.NoMemory = ⊥
 
--- a flaw of the document of this name
-abbrev pub fault_of : List ℕ → Flaw → LoadFault
-fault_of name flaw.Missing = load.Missing name
-fault_of name flaw.TooLong = load.TooLong name
-fault_of name (flaw.Doc fault) = load.Doc name fault
+-- the first place that isn't run of these documents is told, unless memory ran out
+abbrev pub TellsUnrun : List ComponentType → Status → Type 0
+TellsUnrun components status.Done = ⊥
+TellsUnrun components status.Usage = ⊥
+TellsUnrun components (status.BadScript line) = ⊥
+TellsUnrun components (status.BadDocument fault) = IsUnrun components fault
+TellsUnrun components status.ReadFault = ⊥
+TellsUnrun components status.WriteFault = ⊥
+TellsUnrun components status.NoMemory = Unit {0}
 
--- the status tells the flaw, unless memory ran out
-abbrev pub IsFlawOf : List ℕ → Flaw → Status → Type 0
-IsFlawOf name found status.Done = ⊥
-IsFlawOf name found status.Usage = ⊥
-IsFlawOf name found (status.BadScript line) = ⊥
-IsFlawOf name found (status.BadDocument fault) = fault ≡ fault_of name found
-IsFlawOf name found status.ReadFault = ⊥
-IsFlawOf name found status.WriteFault = ⊥
-IsFlawOf name found status.NoMemory = Unit {0}
+-- a document's fault as a status: want of memory has one of its own
+abbrev pub document_status : List ℕ → DocFault → Status
+document_status name doc.NoMemory = status.NoMemory
+document_status name fault = status.BadDocument (load.Doc name fault)
 
--- the status tells the reader's fault
-abbrev pub IsRefusalFor : List ℕ → DocFault → Status → Type 0
-IsRefusalFor name doc.NoMemory answer = answer ≡ status.NoMemory
-IsRefusalFor name fault answer = IsFlawOf name (flaw.Doc fault) answer
-
--- the status tells the fault of the bytes, unless memory ran out
-abbrev pub RefusesBytes : List ℕ → List ℕ → Status → Type 0
-RefusesBytes name bytes status.Done = ⊥
-RefusesBytes name bytes status.Usage = ⊥
-RefusesBytes name bytes (status.BadScript line) = ⊥
-RefusesBytes name bytes (status.BadDocument fault) =
-    (found : DocFault) × (fault ≡ load.Doc name found) × IsOfText found × IsFaulty bytes found
-RefusesBytes name bytes status.ReadFault = ⊥
-RefusesBytes name bytes status.WriteFault = ⊥
-RefusesBytes name bytes status.NoMemory = Unit {0}
+-- a load's fault as a status: a failed read and want of memory have statuses of their own
+abbrev pub load_status : LoadFault → Status
+load_status (load.Doc name fault) = document_status name fault
+load_status load.Read = status.ReadFault
+load_status load.NoMemory = status.NoMemory
+load_status fault = status.BadDocument fault
 
 -- the first commands moved, and a prefix of their copies of the image was written
 pub record IsPrefix (image : List ℕ) (count : ℕ) (journal : List Move) (before after : Option (List ℕ)) : Type 0 where

@@ -1,9 +1,9 @@
 pub mod Causes
+pub mod Documents
 pub mod Flaws
 pub mod Moves
-pub mod Painting
-pub mod Places
 pub mod Script
+pub mod Shown
 pub mod StatusLine
 pub mod Words
 pub mod Written

@@ -1,26 +1,26 @@
-//! What holds of every text and every script, whoever reads them. The functions do nothing; each one's
+//! What holds of all files and every script, whoever reads them. The functions do nothing; each one's
 //! contract is a law.
 
-ghost use Rattle.std.specs.Prelude.{◌≡◌, ◌≢◌, ℕ, List};
-ghost use Rattle.qml_ast.specs.declared.fault.DocFault.{DocFault};
-ghost use Rattle.qml_ast.specs.declared.fault.DocFault.TheVariants.{NoMemory};
-ghost use Rattle.rect_form.specs.Tree.{Members};
-ghost use Rattle.stage_run.specs.Causes.{IsTextOf, IsFaulty};
-ghost use Rattle.stage_run.specs.Painting.{painted};
+ghost use Rattle.std.specs.Prelude.{◌≡◌, ℕ, List};
+ghost use Rattle.outside.specs.Store.{Store};
+ghost use Rattle.qml_ast.specs.declared.fault.LoadFault.{LoadFault};
+ghost use Rattle.stage_run.specs.Documents.{HasRunUnit, HasFault};
 ghost use Rattle.stage_run.specs.Script.{IsScript, IsFirstBadLine};
+ghost use Rattle.stage_run.specs.Shown.{picture_of};
+ghost use Rattle.type_loader.specs.declared.unit.Unit.{Unit as UnitOf};
 
-/// One text is painted in one way, so the frames of a run are a function of its files.
+/// Told files show one picture of a main document, so the frames of a run are a function of its files.
 pub fn one_painting()
-    ensures { (bytes : List ℕ) (first second : Members) → IsTextOf bytes first → IsTextOf bytes second →
-        painted 0 0 first ≡ painted 0 0 second }
+    ensures { (files : Store) (main : List ℕ) (first second : UnitOf) → HasRunUnit files main first →
+        HasRunUnit files main second → picture_of first ≡ picture_of second }
 {}
 
-/// One text has one fault at most beside want of memory, and none where it is painted.
+/// Told files have one fault of a main document at most, and none where its unit is run.
 pub fn one_fault()
-    ensures faults { (bytes : List ℕ) (first second : DocFault) → IsFaulty bytes first → IsFaulty bytes second →
-        first ≢ NoMemory → second ≢ NoMemory → first ≡ second }
-    ensures apart { (bytes : List ℕ) (tree : Members) (fault : DocFault) → IsTextOf bytes tree → IsFaulty bytes fault →
-        fault ≡ NoMemory }
+    ensures faults { (files : Store) (main : List ℕ) (first second : LoadFault) → HasFault files main first →
+        HasFault files main second → first ≡ second }
+    ensures apart { (files : Store) (main : List ℕ) (unit : UnitOf) (fault : LoadFault) → HasRunUnit files main unit →
+        HasFault files main fault → ⊥ }
 {}
 
 /// One script has one number of commands, or one first bad line, and never both.

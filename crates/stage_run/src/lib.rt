@@ -5,7 +5,7 @@
 mod frames;
 pub mod journal;
 pub mod laws;
-mod painter;
+mod picture;
 mod script;
 mod sources;
 pub mod stage;

@@ -1,24 +1,23 @@
-ghost use Rattle.std.specs.Prelude.{◌≡◌, ◌≤◌, length, IfOk, IfErr, IfSome, None};
+ghost use Rattle.std.specs.Prelude.{◌≡◌, ◌≤◌, ◌<◌, length, IfOk, IfErr, IfSome, None, Some};
 ghost use Rattle.std.specs.FinMap.{get};
-ghost use Rattle.rect_form.specs.Tree.{Members};
-ghost use Rattle.rect_form.specs.Meaning.{flattened};
-ghost use Rattle.stage_run.specs.Causes.{HasScript, HasTree, IsTextOf, IsFaulty, RefusesScript, RefusesDocument};
-ghost use Rattle.stage_run.specs.Flaws.{IsBadScriptAt, RefusesBytes, IsFlawOf, IsRefusalFor};
+ghost use Rattle.stage_run.specs.Causes.{HasScript, RefusesScript, RefusesDocument};
+ghost use Rattle.stage_run.specs.Documents.{HasRunUnit};
+ghost use Rattle.stage_run.specs.Flaws.{IsBadScriptAt, TellsUnrun, document_status, load_status};
 ghost use Rattle.stage_run.specs.Script.{IsScript};
+ghost use Rattle.unit_picture.specs.Unrun.{first_unrun};
 
 use crate::script::read_script;
 use crate::status::Status;
 use outside::{Fetch, Files};
 use qml_ast::{DocFault, LoadFault, Name};
-use qml_parse::parse;
-use rect_form::{Rects, rects};
+use qml_types::ComponentType;
+use shared_value::Shared;
 use std::alloc::Global;
+use type_loader::{Cache, Unit, load};
+use unit_picture::{Unrun, first_unrun};
 
 /// The most bytes that a script may have.
 pub const SCRIPT_LIMIT: usize = 4_194_304;
-
-/// The most bytes that a document may have.
-pub const DOCUMENT_LIMIT: usize = 1_048_576;
 
 /// The number of commands of the script of this name, or why there is none: `BadScript` where the file
 /// is missing, too long or has a bad line, `ReadFault` where it could not be read, or `NoMemory`.
@@ -50,81 +49,70 @@ fn commands_of(bytes: &[u8]) -> Result<u32, Status>
     }
 }
 
-/// The rectangles of the document of this name, or why there are none: `BadDocument` where the file is
-/// missing, too long, no document or not run yet, `ReadFault` where it could not be read, or `NoMemory`.
-pub fn fetch_document<F: Files>(alloc: Global, files: &mut F, name: &str) -> Result<Rects, Status>
+/// The unit of the document of this name, of which all is run, or why there is none: `BadDocument` with the
+/// load's fault or with the first place of the documents that isn't run yet, `ReadFault` where a file could
+/// not be read, or `NoMemory`.
+pub fn load_document<F: Files>(alloc: Global, files: &mut F, name: &str) -> Result<Unit, Status>
     requires { length name.now ≤ 65536 }
     ensures held { F.held files.new ≡ F.held files.old }
     ensures later { F.faults files.old ≤ F.faults files.new }
-    ensures read { IfOk result (λ rects. (tree : Members) × (rects ≡ flattened None 0 tree)
-        × IfSome (F.held files.old) (λ told. HasTree (get told name.now) tree)) }
+    ensures read { IfOk result (λ unit. IfSome (F.held files.old) (λ told. HasRunUnit told name.now unit)) }
     ensures refused { IfErr result (RefusesDocument (F.held files.old) name.now (F.faults files.old) (F.faults files.new)) }
 {
-    let mut bytes = Vec::new(alloc);
-    match files.fetch(name, DOCUMENT_LIMIT, &mut bytes) {
-        Fetch::Found => document_of(alloc, name, bytes.as_slice()),
-        Fetch::Missing => Err(bad_document(alloc, name, Flaw::Missing)),
-        Fetch::TooLong => Err(bad_document(alloc, name, Flaw::TooLong)),
-        Fetch::Failed => Err(Status::ReadFault),
-        Fetch::NoMemory => Err(Status::NoMemory),
+    let mut cache = Cache::new(alloc);
+    match load(alloc, files, name, &mut cache) {
+        Ok(unit) => all_run(alloc, unit),
+        Err(fault) => Err(load_status(fault)),
     }
 }
 
-/// The rectangles of the text of the document of this name, or why there are none.
-fn document_of(alloc: Global, name: &str, bytes: &[u8]) -> Result<Rects, Status>
-    requires name { length name.now ≤ 65536 }
-    requires few { length bytes.now ≤ DOCUMENT_LIMIT }
-    ensures read { IfOk result (λ rects. (tree : Members) × (rects ≡ flattened None 0 tree) × IsTextOf bytes.now tree) }
-    ensures refused { IfErr result (RefusesBytes name.now bytes.now) }
+/// What a load's fault means for the run.
+fn load_status(fault: LoadFault) -> Status
+    ensures { result ≡ load_status fault }
 {
-    match rects_of(alloc, bytes) {
-        Ok(rects) => Ok(rects),
-        Err(fault) => Err(refusal_of(alloc, name, fault)),
+    match fault {
+        LoadFault::Read => Status::ReadFault,
+        LoadFault::NoMemory => Status::NoMemory,
+        LoadFault::Doc { name, fault } => document_status(name, fault),
+        fault => Status::BadDocument { fault },
     }
 }
 
-/// The rectangles of a text, or the first fault of the text, or the first place in its document that is
-/// not run yet, as `Unsupported`.
-fn rects_of(alloc: Global, bytes: &[u8]) -> Result<Rects, DocFault>
-    requires { length bytes.now ≤ DOCUMENT_LIMIT }
-    ensures read { IfOk result (λ rects. (tree : Members) × (rects ≡ flattened None 0 tree) × IsTextOf bytes.now tree) }
-    ensures refused { IfErr result (IsFaulty bytes.now) }
-{
-    let document = parse(alloc, bytes)?;
-    rects(alloc, &document)
-}
-
-/// What a document's fault means for the run.
-fn refusal_of(alloc: Global, name: &str, fault: DocFault) -> Status
-    requires { length name.now ≤ 65536 }
-    ensures { IsRefusalFor name.now fault result }
+/// What the fault of the document in that file means for the run.
+fn document_status(name: Name, fault: DocFault) -> Status
+    ensures { result ≡ document_status name fault }
 {
     match fault {
         DocFault::NoMemory => Status::NoMemory,
-        fault => bad_document(alloc, name, Flaw::Doc(fault)),
+        fault => Status::BadDocument {
+            fault: LoadFault::Doc { name, fault },
+        },
     }
 }
 
-/// What can be wrong with a document's file.
-#[derive(Clone, Copy, Debug)]
-enum Flaw {
-    Missing,
-    TooLong,
-    Doc(DocFault),
+/// The unit itself where all of it is run, or its first place that isn't.
+fn all_run(alloc: Global, unit: Unit) -> Result<Unit, Status>
+    ensures run { IfOk result (λ same. (same ≡ unit) × (first_unrun unit.components ≡ None)) }
+    ensures refused { IfErr result (TellsUnrun unit.components) }
+{
+    match first_unrun(unit.components.as_slice()) {
+        None => Ok(unit),
+        Some(place) => Err(unrun_at(alloc, unit.components.as_slice(), place)),
+    }
 }
 
-/// That the document of this name has the flaw, or that there is no memory to say so.
-fn bad_document(alloc: Global, name: &str, flaw: Flaw) -> Status
-    requires { length name.now ≤ 65536 }
-    ensures { IsFlawOf name.now flaw result }
+/// That the place isn't run, or that there is no memory to say so.
+fn unrun_at(alloc: Global, components: &[Shared<ComponentType>], place: Unrun) -> Status
+    requires first { first_unrun components.now ≡ Some place }
+    requires within { place.document < length components.now }
+    ensures { TellsUnrun components.now result }
 {
-    let Ok(name) = Name::new(alloc, name) else {
+    let component = components[place.document].get();
+    let Ok(name) = component.file.copy(alloc) else {
         return Status::NoMemory;
     };
-    let fault = match flaw {
-        Flaw::Missing => LoadFault::Missing { name },
-        Flaw::TooLong => LoadFault::TooLong { name },
-        Flaw::Doc(fault) => LoadFault::Doc { name, fault },
-    };
-    Status::BadDocument { fault }
+    let fault = DocFault::Unsupported { at: place.at };
+    Status::BadDocument {
+        fault: LoadFault::Doc { name, fault },
+    }
 }

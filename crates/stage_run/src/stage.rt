@@ -6,8 +6,8 @@ ghost use Rattle.stage_run.specs.declared.status.Status.TheVariants as statuses;
 
 use crate::frames::write_frames;
 use crate::journal::Journal;
-use crate::painter::draw;
-use crate::sources::{fetch_document, fetch_script};
+use crate::picture::main_picture;
+use crate::sources::fetch_script;
 use crate::status::Status;
 use crate::words::Words;
 use outside::{Files, Sink};
@@ -27,8 +27,9 @@ pub struct Outcome<F, S, N> {
 /// 640 by 480 pixels goes to `frames`, as a binary pixmap (Netpbm P6). Nothing goes to `notes`.
 ///
 /// The first of these that fails gives the status: the words; the fetch of the script, of at most 4 MiB;
-/// its lines; the fetch of the document, of at most 1 MiB; its form; each frame's write. `NoMemory` may
-/// stand in place of any but `Usage`. The counts of failed reads and writes never fall.
+/// its lines; the load of the document with all documents that it mentions; the first of their places that
+/// isn't run yet; each frame's write. `NoMemory` may stand in place of any but `Usage`. The counts of failed
+/// reads and writes never fall.
 pub fn run<F: Files, S: Sink, N: Sink>(
     alloc: Global,
     words: &Words,
@@ -108,7 +109,6 @@ fn perform<F: Files, S: Sink>(
         (S.contents frames.old) (S.contents frames.new) journal.new)) }
 {
     let count = fetch_script(alloc, files, words.at(1))?;
-    let rects = fetch_document(alloc, files, words.at(0))?;
-    let canvas = draw(alloc, &rects)?;
+    let canvas = main_picture(alloc, files, words.at(0))?;
     write_frames(&canvas, count, journal, frames)
 }

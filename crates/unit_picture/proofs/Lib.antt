@@ -1,3 +1,4 @@
-pub mod Unrolled
-pub mod Painted
 pub mod Noted
+pub mod Painted
+pub mod Sizing
+pub mod Unrolled

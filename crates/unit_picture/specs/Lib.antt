@@ -1,3 +1,4 @@
 pub mod Given
+pub mod Limits
 pub mod Looks
 pub mod Unrun

@@ -1,9 +1,10 @@
 ghost use Rattle.std.specs.Prelude.{◌≡◌, IfOk};
 ghost use Rattle.rect_raster.specs.Drawing.{drawing};
-ghost use Rattle.unit_picture.specs.Looks.{root_corner, painted, is_within_limits, shown};
+ghost use Rattle.unit_picture.specs.Looks.{root_corner, shown};
 
 use crate::corner::Corner;
 use crate::facts::{RootFacts, root_facts};
+use crate::limits::is_within_limits;
 use crate::painting::paint;
 use crate::places::moved;
 use crate::setting::Settings;
@@ -25,7 +26,7 @@ fn root_corner(root: RootFacts) -> Result<Option<Corner>, AllocError>
 
 /// What a window of `width` times `height` pixels shows of the main document: the root's rectangle and
 /// those of the objects in it, in the order in which they are made, over white. Only white, where the
-/// document would have too many objects or levels of objects, which the caller has found out.
+/// document would make more than 99,999 objects, or objects on more than 256 levels.
 ///
 /// # Errors
 ///
@@ -34,14 +35,13 @@ fn root_corner(root: RootFacts) -> Result<Option<Corner>, AllocError>
 pub fn draw(
     alloc: Global,
     main: &ComponentType,
-    fits: bool,
     width: u32,
     height: u32,
 ) -> Result<Canvas, AllocError>
-    requires { fits ≡ is_within_limits main.now }
     ensures { IfOk result (λ canvas. canvas ≡ drawing width height (shown main.now)) }
 {
     let mut canvas = Canvas::new(alloc, width, height)?;
+    let fits = is_within_limits(alloc, main)?;
     if !fits {
         return Ok(canvas);
     }

@@ -5,6 +5,7 @@
 pub mod corner;
 pub mod drawing;
 pub mod facts;
+pub mod limits;
 mod own;
 mod painting;
 mod places;
@@ -12,4 +13,5 @@ pub mod setting;
 pub mod unrun;
 
 pub use drawing::draw;
+pub use limits::is_within_limits;
 pub use unrun::{Unrun, first_unrun};

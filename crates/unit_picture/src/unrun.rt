@@ -1,4 +1,4 @@
-ghost use Rattle.std.specs.Prelude.{◌≡◌, map, flat_map, fold};
+ghost use Rattle.std.specs.Prelude.{◌≡◌, ◌<◌, length, map, flat_map, fold, IfSome};
 ghost use Rattle.unit_picture.specs.Unrun.{earlier, unless, is_run_type, is_run_role, is_run_value, owner_in, kind_of, type_places, init_place, signal_place, method_place, handler_place, object_places, first_place, first_unrun};
 
 use crate::facts::facts_of;
@@ -151,13 +151,14 @@ fn first_place(component: &ComponentType) -> Option<Span>
 }
 
 /// The first place that isn't run yet of lawful documents, whose component types these are: of the first
-/// document that has one, the first by line and column. Not run are the type names but `QtObject`, `Item`,
+/// document that has one, which is told by its number from 0, the first by line and column. Not run are the type names but `QtObject`, `Item`,
 /// `Rectangle` and those of documents; signals, functions and handlers; and each initialiser but those of
 /// declared properties by a literal or an object, of `x`, `y`, `width` and `height` by a whole number, and
 /// of a Rectangle's `color` by a text that spells an opaque colour. An object that is another slot's value
 /// has the place of its type's name.
 pub fn first_unrun(components: &[Shared<ComponentType>]) -> Option<Unrun>
-    ensures { result ≡ first_unrun components.now }
+    ensures first { result ≡ first_unrun components.now }
+    ensures within { IfSome result (λ place. place.document < length components.now) }
 {
     for (document, component) in components.iter().enumerate() {
         if let Some(at) = first_place(component.get()) {

@@ -8,31 +8,31 @@ use Rattle.stage_run.proofs.stage.perform.Goals as goal
 pub returns-clause-done : goal.returns-clause-done
 returns-clause-done g c =
     let F = g.F.Files in let S = g.S.Sink in
-    let drawn = c.in_ok-rects.ensures.read in
+    let drawn = c.in_ok-canvas.ensures.shown in
     ended-whole c.write_frames.result
-    (run_of c.args.words.now (F.held c.args.files.now) (F.faults c.args.files.now) (F.faults c.fetch_document.new.files) (S.faults c.args.frames.now) (S.faults c.write_frames.new.frames) (S.contents c.args.frames.now) (S.contents c.write_frames.new.frames) c.write_frames.new.journal)
+    (run_of c.args.words.now (F.held c.args.files.now) (F.faults c.args.files.now) (F.faults c.main_picture.new.files) (S.faults c.args.frames.now) (S.faults c.write_frames.new.frames) (S.contents c.args.frames.now) (S.contents c.write_frames.new.frames) c.write_frames.new.journal)
     (ppm c.in_ok-canvas.canvas) c.in_ok-count.count drawn.0 c.in_ok-count.ensures.few
     (accepted (F.held c.args.files.now) (F.held c.fetch_script.new.files) c.args.words.now c.at.result.now c.at-2.result.now c.in_ok-count.count drawn.0
     c.at.ensures c.at-2.ensures c.fetch_script.ensures.held c.in_ok-count.ensures.read drawn.2)
-    (image-drawn c.in_ok-canvas.canvas drawn.0 (c.in_ok-canvas.ensures drawn.0 drawn.1))
+    (image-drawn c.in_ok-canvas.canvas drawn.0 drawn.1)
     c.write_frames.ensures.moves c.write_frames.ensures.bytes
 
 pub returns-clause-ended : goal.returns-clause-ended
 returns-clause-ended g c =
     let F = g.F.Files in let S = g.S.Sink in
-    let drawn = c.in_ok-rects.ensures.read in
+    let drawn = c.in_ok-canvas.ensures.shown in
     ended-stopped c.write_frames.result
-    (run_of c.args.words.now (F.held c.args.files.now) (F.faults c.args.files.now) (F.faults c.fetch_document.new.files) (S.faults c.args.frames.now) (S.faults c.write_frames.new.frames) (S.contents c.args.frames.now) (S.contents c.write_frames.new.frames) c.write_frames.new.journal)
+    (run_of c.args.words.now (F.held c.args.files.now) (F.faults c.args.files.now) (F.faults c.main_picture.new.files) (S.faults c.args.frames.now) (S.faults c.write_frames.new.frames) (S.contents c.args.frames.now) (S.contents c.write_frames.new.frames) c.write_frames.new.journal)
     (ppm c.in_ok-canvas.canvas) c.in_ok-count.count drawn.0 c.in_ok-count.ensures.few
     (accepted (F.held c.args.files.now) (F.held c.fetch_script.new.files) c.args.words.now c.at.result.now c.at-2.result.now c.in_ok-count.count drawn.0
     c.at.ensures c.at-2.ensures c.fetch_script.ensures.held c.in_ok-count.ensures.read drawn.2)
-    (image-drawn c.in_ok-canvas.canvas drawn.0 (c.in_ok-canvas.ensures drawn.0 drawn.1))
+    (image-drawn c.in_ok-canvas.canvas drawn.0 drawn.1)
     c.write_frames.ensures.stopped
 
-pub returns-in_err-rects-clause-ended : goal.returns-in_err-rects-clause-ended
-returns-in_err-rects-clause-ended g c =
+pub returns-in_err-canvas-clause-ended : goal.returns-in_err-canvas-clause-ended
+returns-in_err-canvas-clause-ended g c =
     let F = g.F.Files in let S = g.S.Sink in
-    let run = run_of c.args.words.now (F.held c.args.files.now) (F.faults c.args.files.now) (F.faults c.fetch_document.new.files) (S.faults c.args.frames.now) (S.faults c.args.frames.now) (S.contents c.args.frames.now) (S.contents c.args.frames.now) c.args.journal.now in
+    let run = run_of c.args.words.now (F.held c.args.files.now) (F.faults c.args.files.now) (F.faults c.main_picture.new.files) (S.faults c.args.frames.now) (S.faults c.args.frames.now) (S.contents c.args.frames.now) (S.contents c.args.frames.now) c.args.journal.now in
     let idle : IsIdle run = record { no_moves = c.requires.empty; no_bytes = first_of (search rules) } in
-    let ended = ended-refused run c.in_err-rects.field-0.0 (F.held c.fetch_script.new.files) c.at.result.now c.at-2.result.now (F.faults c.fetch_script.new.files) c.in_ok-count.count idle c.fetch_script.ensures.held c.at.ensures c.at-2.ensures c.fetch_script.ensures.later c.in_ok-count.ensures.read c.in_err-rects.ensures.refused in
+    let ended = ended-refused run c.in_err-canvas.field-0.0 (F.held c.fetch_script.new.files) c.at.result.now c.at-2.result.now (F.faults c.fetch_script.new.files) c.in_ok-count.count idle c.fetch_script.ensures.held c.at.ensures c.at-2.ensures c.fetch_script.ensures.later c.in_ok-count.ensures.read c.in_err-canvas.ensures.refused in
     first_of (search rules, cc, grind (arith, common_steps))

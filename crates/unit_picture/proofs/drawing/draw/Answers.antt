@@ -6,12 +6,12 @@ use Rattle.unit_picture.proofs.drawing.draw.Goals as goal
 
 pub returns-then-not-fits : goal.returns-then-not-fits
 returns-then-not-fits c =
-    window_empty c.args.main.now c.args.width c.args.height c.args.fits c.in_ok-canvas.canvas c.requires (grind arith) c.in_ok-canvas.ensures
+    window_empty c.args.main.now c.args.width c.args.height c.in_ok-fits.fits c.in_ok-canvas.canvas c.in_ok-fits.ensures (grind arith) c.in_ok-canvas.ensures
 
 pub returns : goal.returns
 returns c =
     let look = look_of c.args.main.now in
-    window_shown c.args.main.now c.args.width c.args.height c.args.fits c.in_ok-canvas.canvas c.paint.new.canvas c.requires (grind arith) c.in_ok-canvas.ensures
+    window_shown c.args.main.now c.args.width c.args.height c.in_ok-fits.fits c.in_ok-canvas.canvas c.paint.new.canvas c.in_ok-fits.ensures (grind arith) c.in_ok-canvas.ensures
     (subst (λ shapes. IsPaintedOver c.in_ok-canvas.canvas c.paint.new.canvas shapes)
     (ap (λ s. look.paint s c.in_ok-corner.corner) c.new-2.ensures
     ∙ ap (λ p. look.paint nothing p) (c.in_ok-corner.ensures ∙ ap root_corner c.root_facts.ensures))

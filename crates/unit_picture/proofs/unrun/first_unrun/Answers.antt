@@ -3,12 +3,12 @@ use Rattle.unit_picture.specs.Unrun.{first_place, first_unrun}
 use Rattle.unit_picture.proofs.Noted.{place_found, no_place}
 use Rattle.unit_picture.proofs.unrun.first_unrun.Goals as goal
 
-pub returns-in-Some : goal.returns-in-Some
+pub returns-in-Some-clause-first : goal.returns-in-Some-clause-first
 unfolding first_unrun
-returns-in-Some c =
+returns-in-Some-clause-first c =
     place_found c.args.components.now c.loop-document.document c.index-components-document.result c.in-Some.at _ c.loop-document-test.true
     c.index-components-document.is (sym c.in-Some.is ∙ (c.first_place.ensures ∙ ap first_place c.get.ensures)) c.loop-document.invariant
 
-pub returns : goal.returns
+pub returns-clause-first : goal.returns-clause-first
 unfolding first_unrun
-returns c = no_place c.args.components.now c.loop-document.document _ (omega arith) c.loop-document.invariant
+returns-clause-first c = no_place c.args.components.now c.loop-document.document _ (omega arith) c.loop-document.invariant
