@@ -1,9 +1,11 @@
-ghost use Rattle.std.specs.Prelude.{◌≡◌, ◌==◌, ◌+◌, ◌^◌, ◌<◌, [], length, option_copied, IfOk, OnOk, OnErr};
+ghost use Rattle.std.specs.Prelude.{◌≡◌, ◌==◌, ◌+◌, ◌^◌, ◌<◌, [], length, filter, option_copied, IsSome, Some, IfOk, OnOk, OnErr};
 ghost use Rattle.std.specs.Option.{option_copied_mut, option_map};
 ghost use Rattle.std.specs.Borrow.{sem};
-ghost use Rattle.arena.specs.Arena.{thing_at, with_thing, without, with_next, next_above};
-ghost use Rattle.arena.specs.Lends.{lends_thing};
+ghost use Rattle.arena.specs.Arena.{thing_at, with_thing, without, with_next, next_above, first_of};
+ghost use Rattle.std.specs.Ordering.{nat_cmp, is_lt};
+ghost use Rattle.arena.specs.Lends.{lends_thing, lends_present};
 
+use slab::Slab;
 use std::alloc::{AllocError, Global};
 use std::collections::BTreeMap;
 use std::marker::Model;
@@ -11,23 +13,38 @@ use std::ops::Bound;
 
 /// Values under serials. Contracts see the last serial that was given, and the values that are there, each
 /// with its serial, by rising serial.
+///
+/// The values lie in a slab, where the room of those that went is used again.
 #[derive(Drop)]
 pub struct Arena<T> {
     last: u64,
-    things: BTreeMap<u64, T>,
+    slots: Slab<T>,
+    // The slab's key of each serial.
+    keys: BTreeMap<u64, usize>,
 }
 
 impl<T> Model for Arena<T> {
-    ghost use Rattle.arena.specs.Arena.{Arena as Things, arena_code, AreUpTo};
-    ghost use Rattle.std.specs.Map.{keys_of};
+    ghost use Rattle.arena.specs.Arena.{Arena as Things, arena_code};
+    ghost use Rattle.arena.specs.Slots.{things, IsHeld};
 
     ghost Value = { Things T };
 
     ghost coded = { arena_code T.code };
 
-    ghost view = { λ a. record { last = a.last; things = a.things.entries } };
+    ghost view = { λ a. record { last = a.last; things = things a.slots.slots a.keys.entries } };
 
-    ghost invariant = { λ a. AreUpTo a.last (keys_of a.things.entries) };
+    ghost invariant = { λ a. IsHeld a.last a.slots.slots a.keys.entries };
+}
+
+// The least serial above this one, with its key.
+fn key_after(keys: &BTreeMap<u64, usize>, serial: u64) -> Option<(u64, usize)>
+    ensures { result ≡ first_of (filter (λ e. is_lt (nat_cmp serial e.0)) keys.now.entries) }
+{
+    let above = (Bound::Excluded(serial), Bound::Unbounded);
+    match keys.range(above).next() {
+        Some((found, key)) => Some((*found, *key)),
+        None => None,
+    }
 }
 
 impl<T: Drop> Arena<T> {
@@ -37,7 +54,8 @@ impl<T: Drop> Arena<T> {
     {
         Arena {
             last: 0,
-            things: BTreeMap::new(alloc),
+            slots: Slab::new(alloc),
+            keys: BTreeMap::new(alloc),
         }
     }
 
@@ -49,46 +67,66 @@ impl<T: Drop> Arena<T> {
     }
 
     /// How many values there are.
+    #[tactic(auto, using(crate::proofs::Slots::length_things))]
     pub fn len(&self) -> usize
         ensures { result ≡ length self.now.things }
     {
-        self.things.len()
+        self.keys.len()
     }
 
     /// Whether there is no value.
     pub fn is_empty(&self) -> bool
         ensures { result ≡ (length self.now.things == 0) }
     {
-        self.things.len() == 0
+        self.len() == 0
     }
 
     /// The value under a serial.
+    #[tactic(auto, using(crate::proofs::Slots::got, crate::proofs::Slots::got_none))]
     pub fn get(&self, serial: u64) -> Option<&T>
         ensures { option_copied result ≡ thing_at serial self.now }
     {
-        self.things.get(&serial)
+        match self.keys.get(&serial) {
+            Some(key) => self.slots.get(*key),
+            None => None,
+        }
     }
 
     /// The value under a serial, for writing.
-    #[tactic(auto, using(crate::proofs::Arenas::written, crate::proofs::Arenas::kept))]
     pub fn get_mut(&mut self, serial: u64) -> Option<&mut T>
         ensures* writes_back { sem 𝓛 (lends_thing T.row self.entry serial result) }
         ensures value { option_copied_mut result ≡ thing_at serial self.old }
     {
-        self.things.get_mut(&serial)
+        if self.get(serial).is_some() {
+            Some(self.present_mut(serial))
+        } else {
+            None
+        }
+    }
+
+    // The value under a serial that has one, for writing.
+    fn present_mut(&mut self, serial: u64) -> &mut T
+        requires { IsSome (thing_at serial self.old) }
+        ensures* writes_back { sem 𝓛 (lends_present T.row self.entry serial result) }
+        ensures value { thing_at serial self.old ≡ Some result.now }
+    {
+        let key = self.keys[&serial];
+        &mut self.slots[key]
     }
 
     /// Puts a value under the next serial. The only error is that memory ran out, and then nothing has
     /// changed.
-    #[tactic(auto, using(crate::proofs::Arenas::inserted_last, crate::proofs::Arenas::up_to_next))]
     pub fn insert(&mut self, thing: T) -> Result<u64, AllocError>
         requires { self.old.last + 1 < 2 ^ 64 }
         ensures serial { IfOk result (λ serial. serial ≡ self.old.last + 1) }
         ensures ok { OnOk result (self.new ≡ with_next self.old thing) }
         ensures err { OnErr result (self.new ≡ self.old) }
     {
+        self.slots.reserve(1)?;
         let serial = self.last + 1;
-        self.things.insert(serial, thing)?;
+        let key = self.slots.vacant_key();
+        self.keys.insert(serial, key)?;
+        self.slots.insert_reserved(thing);
         self.last = serial;
         Ok(serial)
     }
@@ -98,16 +136,22 @@ impl<T: Drop> Arena<T> {
         ensures value { result ≡ thing_at serial self.old }
         ensures rest { self.new ≡ without serial self.old }
     {
-        self.things.remove(&serial)
+        match self.keys.remove(&serial) {
+            Some(key) => self.slots.try_remove(key),
+            None => None,
+        }
     }
 
     /// The value under the least serial above this one, with its serial.
+    #[tactic(auto, using(crate::proofs::Slots::none_above, crate::proofs::Slots::one_above, crate::proofs::Slots::lost_above))]
     pub fn next_after(&self, serial: u64) -> Option<(u64, &T)>
         ensures { option_map (λ found. (found.0, found.1.now)) result ≡ next_above serial self.now }
     {
-        let above = (Bound::Excluded(serial), Bound::Unbounded);
-        match self.things.range(above).next() {
-            Some((found, thing)) => Some((*found, thing)),
+        match key_after(&self.keys, serial) {
+            Some((found, key)) => match self.slots.get(key) {
+                Some(thing) => Some((found, thing)),
+                None => None,
+            },
             None => None,
         }
     }

@@ -1,0 +1,3 @@
+pub mod RowLends
+pub mod Names
+pub mod Store

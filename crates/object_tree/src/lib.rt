@@ -1,0 +1,16 @@
+//! The objects that components make, with their properties, and what names stand for among them.
+#![tactic(auto)]
+
+pub mod context;
+pub mod instance;
+pub mod names;
+pub mod objects;
+pub mod property;
+pub mod row;
+
+pub use context::Context;
+pub use instance::{Feature, Instance, Layer, Object};
+pub use names::Names;
+pub use objects::Objects;
+pub use property::{Binding, Held, Marks, Property};
+pub use row::Row;
