@@ -6,7 +6,9 @@ pub mod instance;
 pub mod names;
 pub mod objects;
 pub mod property;
+mod reading;
 pub mod row;
+mod writing;
 
 pub use context::Context;
 pub use instance::{Feature, Instance, Layer, Object};

@@ -9,13 +9,13 @@ use std::marker::Model;
 /// Contracts see them as a `Store`.
 #[derive(Drop)]
 pub struct Objects {
-    objects: Arena<Instance>,
-    contexts: Row<Context>,
+    pub(crate) objects: Arena<Instance>,
+    pub(crate) contexts: Row<Context>,
     // The number of the present settle.
-    settle: u64,
+    pub(crate) settle: u64,
     // What references to objects that are no more are read as.
-    null: Value,
-    no_line: Value,
+    pub(crate) null: Value,
+    pub(crate) no_line: Value,
 }
 
 impl Model for Objects {
