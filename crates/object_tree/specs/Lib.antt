@@ -5,3 +5,5 @@ pub mod Properties
 pub mod Layers
 pub mod Reading
 pub mod Writing
+pub mod Making
+pub mod Growing

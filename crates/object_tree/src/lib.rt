@@ -2,7 +2,9 @@
 #![tactic(auto)]
 
 pub mod context;
+mod declaring;
 pub mod instance;
+mod making;
 pub mod names;
 pub mod objects;
 pub mod property;

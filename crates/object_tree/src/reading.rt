@@ -170,7 +170,11 @@ impl Instance {
     fn first_from(&self, serial: u64, slot: u32) -> Option<Place>
         ensures { result ≡ first_from serial slot self.now }
     {
-        Some(self.properties.get(slot as usize)?.first_place(serial, slot))
+        Some(
+            self.properties
+                .get(slot as usize)?
+                .first_place(serial, slot),
+        )
     }
 
     // The place after one of this object.
