@@ -1,2 +1,4 @@
 pub mod Turns
 pub mod Growers
+pub mod Counts
+pub mod Lookups

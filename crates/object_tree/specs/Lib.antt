@@ -7,3 +7,8 @@ pub mod Reading
 pub mod Writing
 pub mod Making
 pub mod Growing
+pub mod Counting
+pub mod Looking
+pub mod First
+pub mod Settled
+pub mod Limits

@@ -6,9 +6,13 @@ ghost use Rattle.object_tree.specs.Writing.{with_instance};
 ghost use Rattle.object_tree.specs.Making.{given_object, is_child};
 ghost use Rattle.object_tree.specs.Growing.{depth_below, is_visual_in, in_parent, shown_as_parent, new_instance, with_child, next_serial, born, with_serial, with_id, new_context, with_context, last_context, with_changed_context, context_at, serials_of, owner_in, serial_in, declared, grower_of, grower_under, object_rooted, object_placed, with_grown, object_grower};
 ghost use Rattle.qml_types.specs.declared.component.ObjectDecl.{out-ObjectDecl};
+ghost use Rattle.object_tree.specs.Growing.{grown};
+ghost use Rattle.object_tree.specs.Limits.{is_full, depth_of, is_deep, make_fault, Tells, Makes};
 
 use crate::context::Context;
+use crate::counting::{context_count, level_count, object_count};
 use crate::declaring::{is_child, new_properties};
+use crate::fault::MakeFault;
 use crate::instance::{Instance, Layer, Object};
 use crate::names::Names;
 use crate::objects::Objects;
@@ -20,6 +24,12 @@ use shared_value::Shared;
 use std::alloc::{AllocError, Global};
 use type_table::item_slots::PARENT;
 use type_table::{BuiltIn, is_item, method_count, signal_count};
+
+// How many objects may be live.
+const MOST_OBJECTS: u64 = 100_000;
+
+// How many levels below its content item an object may stand.
+const MOST_LEVELS: u64 = 256;
 
 // How many objects own one that stands in this.
 fn depth_below(above: Option<&Instance>) -> u32
@@ -373,5 +383,95 @@ impl Objects {
         self.declare(alloc, component, object, number, serial)?;
         self.give_object(number, serial, &object.role, owner);
         Ok(Placed { serial, last })
+    }
+}
+
+impl Objects {
+    // Whether there would be too many objects, serials or contexts.
+    fn is_full(&self, component: &ComponentType) -> bool
+        ensures { result ≡ is_full component.now self.now }
+    {
+        let objects = object_count(component);
+        let contexts = context_count(component);
+        let live = self.objects.len() as u64;
+        if live.saturating_add(objects) > MOST_OBJECTS {
+            return true;
+        }
+        let made = self.contexts.len() as u64;
+        self.objects.last().checked_add(objects).is_none() || made.checked_add(contexts).is_none()
+    }
+
+    // How many objects own this one, one another's owners counted.
+    fn depth_of(&self, serial: u64) -> u32
+        ensures { result ≡ depth_of (instance_at serial self.now) }
+    {
+        match self.objects.get(serial) {
+            Some(instance) => instance.depth,
+            None => 0,
+        }
+    }
+
+    // Whether an object would stand too deep.
+    fn is_deep(
+        &self,
+        alloc: Global,
+        component: &ComponentType,
+        parent: u64,
+    ) -> Result<bool, AllocError>
+        ensures { IfOk result (λ deep. deep ≡ is_deep component.now parent self.now) }
+    {
+        let levels = level_count(alloc, component)?;
+        let depth = u64::from(self.depth_of(parent));
+        Ok(depth.saturating_add(levels) > MOST_LEVELS)
+    }
+
+    // Makes all objects of a component.
+    #[tactic(auto, unfolding(crate::specs::Growing::grown))]
+    fn grow(
+        &mut self,
+        alloc: Global,
+        component: &Shared<ComponentType>,
+        parent: u64,
+        around: Option<u64>,
+    ) -> Result<u64, AllocError>
+        ensures serial { IfOk result (λ serial. serial ≡ next_serial self.old) }
+        ensures grown { OnOk result (self.new ≡ grown component.now parent around self.old) }
+    {
+        let serial = self.next_serial()?;
+        self.add_root(alloc, component, parent, true, around)?;
+        let number = self.last_context();
+        self.add_rest(alloc, component, number, serial)?;
+        Ok(serial)
+    }
+
+    /// Makes all objects of a component, its root first, in a live object and as its child, with the next serials
+    /// and the next numbers of contexts. Around it may be the context in which an inline component is declared.
+    /// It gives the root's serial.
+    ///
+    /// # Errors
+    ///
+    /// - `Full`: exactly where there would be more than 100,000 live objects, or more serials or contexts than have
+    ///   numbers.
+    /// - `Deep`: else, exactly where an object would stand more than 256 levels below its content item.
+    /// - `NoMemory`: memory ran out. Nothing is known of the objects then; after the other errors they are as before.
+    #[tactic(auto, unfolding(crate::specs::Limits::make_fault))]
+    pub fn make(
+        &mut self,
+        alloc: Global,
+        component: &Shared<ComponentType>,
+        parent: u64,
+        around: Option<u64>,
+    ) -> Result<u64, MakeFault>
+        ensures tells { Tells (make_fault component.now parent self.old) result }
+        ensures makes { Makes component.now parent around self.old self.new result }
+    {
+        if self.is_full(component.get()) {
+            return Err(MakeFault::Full);
+        }
+        if self.is_deep(alloc, component.get(), parent)? {
+            return Err(MakeFault::Deep);
+        }
+        let serial = self.grow(alloc, component, parent, around)?;
+        Ok(serial)
     }
 }
