@@ -2,3 +2,4 @@ pub mod Turns
 pub mod Growers
 pub mod Counts
 pub mod Lookups
+pub mod Ends

@@ -12,3 +12,4 @@ pub mod Looking
 pub mod First
 pub mod Settled
 pub mod Limits
+pub mod Taking

@@ -1,12 +1,12 @@
 -- What calls make of a store.
-use Rattle.std.specs.Prelude.{ℕ, Option, None, Some, List, slice_get, slice_set}
+use Rattle.std.specs.Prelude.{ℕ, zero, suc, ◌+◌, ◌-◌, ◌^◌, nat_lt, if◌then◌else◌, length, Option, None, Some, List, slice_get, slice_set}
 use Rattle.arena.specs.Arena.{Arena, thing_at, with_thing}
 use Rattle.qml_ast.specs.declared.place.Place.{Place}
 use Rattle.qml_ast.specs.declared.value.Value.{Value}
 use Rattle.object_tree.specs.declared.instance.Instance.{Instance}
 use Rattle.object_tree.specs.declared.property.Marks.{Marks}
 use Rattle.object_tree.specs.declared.property.Property.{Property}
-use Rattle.object_tree.specs.Properties.{with_value, with_marks, with_written}
+use Rattle.object_tree.specs.Properties.{with_value, with_marks, with_written, restarted}
 use Rattle.object_tree.specs.Store.{Store}
 
 -- ---- one item or object
@@ -41,3 +41,23 @@ marked place marks store = with_slot (with_marks place.side marks) place.serial 
 -- the value that is written to a place
 abbrev pub written : Place → Value → Store → Store
 written place value store = with_slot (with_written store.settle place.side value) place.serial place.slot store
+
+-- ---- the end of a settle
+-- the first slots as they stand where the numbers of settles begin again
+abbrev pub restarted_first : ℕ → Instance → Instance
+restarted_first zero instance = instance
+restarted_first (suc n) instance = with_property restarted n (restarted_first n instance)
+
+abbrev pub restarted_instance : Instance → Instance
+restarted_instance instance = restarted_first (length instance.properties) instance
+
+-- the objects up to this serial
+abbrev pub restarted_up_to : ℕ → Store → Store
+restarted_up_to zero store = store
+restarted_up_to (suc n) store = with_instance restarted_instance (suc n) (restarted_up_to n store)
+
+-- the store with the next settle; after the last number that there is the numbers begin again
+unfoldable pub ended : Store → Store
+ended store =
+    if nat_lt store.settle (2 ^ 64 - 1) then record store { settle = store.settle + 1 }
+    else record (restarted_up_to store.objects.last store) { settle = 1 }

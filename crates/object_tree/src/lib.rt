@@ -14,6 +14,7 @@ pub mod property;
 mod reading;
 pub mod row;
 pub mod settled;
+mod taking;
 mod writing;
 
 pub use context::Context;

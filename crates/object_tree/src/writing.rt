@@ -1,6 +1,6 @@
 ghost use Rattle.std.specs.Prelude.{◌≡◌};
-ghost use Rattle.object_tree.specs.Writing.{kept, marked, written, with_property};
-ghost use Rattle.object_tree.specs.Properties.{with_value, with_marks, with_written};
+ghost use Rattle.object_tree.specs.Writing.{kept, marked, written, with_property, with_instance, restarted_first, restarted_instance, restarted_up_to, ended};
+ghost use Rattle.object_tree.specs.Properties.{with_value, with_marks, with_written, restarted};
 
 use crate::instance::Instance;
 use crate::objects::Objects;
@@ -75,5 +75,63 @@ impl Objects {
             return;
         };
         instance.write(place.slot, place.side, value, settle);
+    }
+}
+
+impl Instance {
+    // Ends the last settle that has a number, for one slot.
+    fn restart_slot(&mut self, slot: usize)
+        ensures { self.new ≡ with_property restarted slot self.old }
+    {
+        let Some(property) = self.properties.get_mut(slot) else {
+            return;
+        };
+        property.restart();
+    }
+
+    // Ends the last settle that has a number.
+    #[tactic(auto, using(crate::proofs::Ends::first_more))]
+    fn restart(&mut self)
+        ensures { self.new ≡ restarted_instance self.old }
+    {
+        for slot in 0..self.properties.len() {
+            self.restart_slot(slot);
+        }
+    }
+}
+
+impl Objects {
+    // Ends the last settle that has a number, for one object.
+    fn restart_instance(&mut self, serial: u64)
+        ensures { self.new ≡ with_instance restarted_instance serial self.old }
+    {
+        let Some(instance) = self.objects.get_mut(serial) else {
+            return;
+        };
+        instance.restart();
+    }
+
+    // Ends the last settle that has a number.
+    #[tactic(auto, using(crate::proofs::Ends::up_to_more))]
+    fn restart(&mut self)
+        ensures { self.new ≡ restarted_up_to self.old.objects.last self.old }
+    {
+        for before in 0..self.objects.last() {
+            self.restart_instance(before + 1);
+        }
+    }
+
+    /// Ends a settle: what places show now is what they showed when it ended. It takes no memory, and the same
+    /// time however many objects there are, except once in 2^64 settles.
+    #[tactic(auto, unfolding(crate::specs::Writing::ended))]
+    pub fn end_settle(&mut self)
+        ensures { self.new ≡ ended self.old }
+    {
+        if self.settle < u64::MAX {
+            self.settle += 1;
+            return;
+        }
+        self.restart();
+        self.settle = 1;
     }
 }
