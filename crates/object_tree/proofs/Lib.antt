@@ -3,3 +3,4 @@ pub mod Growers
 pub mod Counts
 pub mod Lookups
 pub mod Ends
+pub mod Walks

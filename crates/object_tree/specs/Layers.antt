@@ -31,8 +31,3 @@ abbrev pub slot_path_of : ℕ → Instance → Option (List ℕ)
 slot_path_of slot instance =
     if nat_lt slot (length (slots instance.built_in)) then option_map path_of (slice_get (slots instance.built_in) slot)
     else option_map name_of (slice_get (declared_slots instance.layers) (slot - length (slots instance.built_in)))
-
-abbrev pub last_of : {X : Type 0} → List X → Option X
-last_of [] = None
-last_of (x ∷ []) = Some x
-last_of (x ∷ y ∷ rest) = last_of (y ∷ rest)

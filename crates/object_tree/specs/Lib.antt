@@ -13,3 +13,4 @@ pub mod First
 pub mod Settled
 pub mod Limits
 pub mod Taking
+pub mod Origins

@@ -1,12 +1,14 @@
 ghost use Rattle.std.specs.Prelude.{◌≡◌, length, option_copied, option_map, slice_get, unwrap_or};
-ghost use Rattle.arena.specs.Arena.{thing_at};
+ghost use Rattle.object_tree.specs.Layers.{decl_of, slots_in, declared_slots, slot_path_of};
+ghost use Rattle.object_tree.specs.Origins.{path_at, seen_at, type_origin, type_origin_at, origin_of};
 ghost use Rattle.object_tree.specs.Reading.{instance_at, is_live, property_at, held_at, value_read, value_at, binding_at, marks_at, is_given_at, info_at, place_in, first_from, next_within, first_above, place_after};
 
-use crate::instance::{Instance, Object};
+use crate::instance::{Instance, Layer, Object};
 use crate::objects::Objects;
 use crate::property::{Binding, Held, Marks, Property};
-use qml_ast::{Place, Side, Value};
-use type_table::{BuiltIn, SlotInfo};
+use qml_ast::{At, Place, Side, Value};
+use qml_types::{ObjectDecl, SlotDecl};
+use type_table::{BuiltIn, SlotInfo, slot_count, slot_path};
 
 impl Property {
     // The first place of a slot.
@@ -194,5 +196,99 @@ impl Instance {
                 self.first_from(place.serial, next)
             }
         }
+    }
+}
+
+impl Layer {
+    // The object's declaration.
+    fn decl(&self) -> Option<&ObjectDecl>
+        ensures { option_copied result ≡ decl_of self.now }
+    {
+        self.component.get().objects.get(self.index as usize)
+    }
+
+    // The slots that it declares.
+    fn slots(&self) -> &[SlotDecl]
+        ensures { result.now ≡ slots_in (decl_of self.now) }
+    {
+        match self.decl() {
+            Some(decl) => decl.slots.as_slice(),
+            None => &[],
+        }
+    }
+}
+
+impl Instance {
+    // The declared slot with that number of declared ones before it.
+    fn slot_decl(&self, index: usize) -> Option<&SlotDecl>
+        ensures { option_copied result ≡ slice_get (declared_slots self.now.layers) index }
+    {
+        let mut left = index;
+        for layer in self.layers.as_slice() {
+            let slots = layer.slots();
+            if left < slots.len() {
+                return Some(&slots[left]);
+            }
+            left -= slots.len();
+        }
+        None
+    }
+
+    // The path of a slot.
+    fn slot_path(&self, slot: u32) -> Option<&str>
+        ensures { option_copied result ≡ slot_path_of slot self.now }
+    {
+        let count = slot_count(self.built_in);
+        if slot < count {
+            return Some(slot_path(self.built_in, slot));
+        }
+        Some(self.slot_decl((slot - count) as usize)?.name.as_str())
+    }
+
+    // Where the name of the object's type stands in the document that declares the object.
+    fn type_at(&self) -> Option<At<'_>>
+        ensures { option_map seen_at result ≡ type_origin self.now.layers }
+    {
+        let layer = self.layers.as_slice().last()?;
+        let span = layer.decl()?.span;
+        Some(At {
+            file: &layer.component.get().file,
+            span,
+        })
+    }
+}
+
+impl Objects {
+    /// The path of a place's slot, as `width` or `anchors.leftMargin`. None where there is no such slot.
+    pub fn path(&self, place: Place) -> Option<&str>
+        ensures { option_copied result ≡ path_at place self.now }
+    {
+        let instance = self.objects.get(place.serial)?;
+        instance.properties.get(place.slot as usize)?;
+        instance.slot_path(place.slot)
+    }
+
+    /// Where the name of an object's type stands. None where the object is not live, and for a content item, which
+    /// no document declares.
+    pub fn type_at(&self, serial: u64) -> Option<At<'_>>
+        ensures { option_map seen_at result ≡ type_origin_at serial self.now }
+    {
+        self.objects.get(serial)?.type_at()
+    }
+
+    /// Where notes on a place stand: at the path of the expression that it is bound to, and else at the name of
+    /// the object's type. None where there is no such place, and for places of a content item.
+    pub fn at(&self, place: Place) -> Option<At<'_>>
+        ensures { option_map seen_at result ≡ origin_of place self.now }
+    {
+        let Some(binding) = self.binding(place) else {
+            self.held(place)?;
+            return self.type_at(place.serial);
+        };
+        let context = self.context(binding.frame.context)?;
+        Some(At {
+            file: &context.component.get().file,
+            span: binding.span,
+        })
     }
 }
