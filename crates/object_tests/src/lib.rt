@@ -1,0 +1,9 @@
+//! Tests of objects: what is made of documents, what names stand for in them, and what calls leave.
+#![tactic(auto)]
+
+#[cfg(test)]
+mod looks;
+#[cfg(test)]
+mod makes;
+#[cfg(test)]
+mod store;

@@ -1,0 +1,6 @@
+pub mod Turns
+pub mod Growers
+pub mod Counts
+pub mod Lookups
+pub mod Ends
+pub mod Walks

@@ -1,0 +1,16 @@
+pub mod RowLends
+pub mod Names
+pub mod Store
+pub mod Properties
+pub mod Layers
+pub mod Reading
+pub mod Writing
+pub mod Making
+pub mod Growing
+pub mod Counting
+pub mod Looking
+pub mod First
+pub mod Settled
+pub mod Limits
+pub mod Taking
+pub mod Origins

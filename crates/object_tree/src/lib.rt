@@ -1,0 +1,27 @@
+//! The objects that components make, with their properties, and what names stand for among them.
+#![tactic(auto)]
+
+pub mod context;
+mod counting;
+mod declaring;
+pub mod fault;
+pub mod instance;
+mod looking;
+mod making;
+pub mod names;
+pub mod objects;
+pub mod property;
+mod reading;
+pub mod row;
+pub mod settled;
+mod taking;
+mod writing;
+
+pub use context::Context;
+pub use fault::MakeFault;
+pub use instance::{Feature, Instance, Layer, Object};
+pub use names::Names;
+pub use objects::Objects;
+pub use property::{Binding, Held, Marks, Property};
+pub use row::Row;
+pub use settled::Settled;
