@@ -28,6 +28,7 @@ fn visit<F: Field>(
     ensures paid { OnOk result (IsPaid F.space (F.tree field.old) (F.places field.old) (F.evaluations field.old) (F.state field.old) (F.evaluations field.new) [] (F.state field.new)) }
     ensures tree { F.tree field.new ≡ F.tree field.old }
     ensures places { F.places field.new ≡ F.places field.old }
+    ensures loans { F.loans field.new ≡ F.loans field.old }
 {
     if field.phase(place) != Phase::Fresh {
         return Ok(());
@@ -73,6 +74,7 @@ pub fn settle<F: Field>(
 
     ensures tree { F.tree field.new ≡ F.tree field.old }
     ensures places { F.places field.new ≡ F.places field.old }
+    ensures loans { F.loans field.new ≡ F.loans field.old }
 {
     let mut stack = Vec::new(alloc);
     let mut loops = Vec::new(alloc);

@@ -1,5 +1,5 @@
-use crate::net::{Fault, Net, Rule, Slot, Stage};
-use settling::{LoopFound, settle};
+use crate::net::{Fault, Rule, Slot, Stage, first_slots, settle_slots};
+use settling::LoopFound;
 use std::alloc::{AllocError, Global};
 use std::test::Fail;
 
@@ -95,12 +95,12 @@ fn are_loops(found: &[LoopFound<usize>], loops: &[Loop]) -> bool {
 }
 
 fn settles(alloc: Global, case: &Case) -> Result<bool, AllocError> {
-    let mut net = Net::new(alloc, case.rules)?;
-    let loops = settle(alloc, &mut net)?;
+    let mut slots = first_slots(alloc, case.rules)?;
+    let settled = settle_slots(alloc, case.rules, &mut slots)?;
     Ok(
-        net.slots.as_slice() == case.slots
-            && are_loops(loops.as_slice(), case.loops)
-            && net.evaluations == case.evaluations,
+        slots.as_slice() == case.slots
+            && are_loops(settled.loops.as_slice(), case.loops)
+            && settled.evaluations == case.evaluations,
     )
 }
 
@@ -120,9 +120,9 @@ fn first_of_chain(alloc: Global, length: usize) -> Result<Option<u32>, AllocErro
         rules.push(Rule::Next(place))?;
     }
     rules.push(Rule::Number(1))?;
-    let mut net = Net::new(alloc, rules.as_slice())?;
-    settle(alloc, &mut net)?;
-    Ok(net.slots.get(0).map(|slot| slot.value))
+    let mut slots = first_slots(alloc, rules.as_slice())?;
+    settle_slots(alloc, rules.as_slice(), &mut slots)?;
+    Ok(slots.get(0).map(|slot| slot.value))
 }
 
 #[test]

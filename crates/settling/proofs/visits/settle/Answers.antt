@@ -11,6 +11,7 @@ loop-index-init g c = record {
   paid = none_paid g.F.Field.space (g.F.Field.tree c.args.field.now) (g.F.Field.places c.args.field.now) (g.F.Field.state c.args.field.now) (g.F.Field.evaluations c.args.field.now);
   tree = refl;
   places = refl;
+  loans = refl;
   count = c.count-count.ensures;
 }
 
@@ -32,6 +33,7 @@ loop-index-preserved g c = record {
       c.in_ok-visit.ensures.visited c.in_ok-visit.ensures.paid c.loop-index.invariant.paid;
   tree = c.visit.ensures.tree ∙ c.loop-index.invariant.tree;
   places = c.visit.ensures.places ∙ c.loop-index.invariant.places;
+  loans = c.visit.ensures.loans ∙ c.loop-index.invariant.loans;
   count = c.loop-index.invariant.count;
 }
 
