@@ -23,6 +23,8 @@ pub enum Rule {
     Plain(u32),
     /// It stands suspended with this value.
     Resting(u32),
+    /// It was evaluated before, and has this value.
+    Done(u32),
     Number(u32),
     /// The same as a place.
     Same(usize),
@@ -81,6 +83,7 @@ fn first_slot(rule: Rule) -> Slot
     let (stage, value) = match rule {
         Rule::Plain(n) => (Stage::Plain, n),
         Rule::Resting(n) => (Stage::Resting, n),
+        Rule::Done(n) => (Stage::Active, n),
         _ => (Stage::Fresh, 0),
     };
     Slot {
@@ -198,7 +201,7 @@ impl Net<'_> {
         ensures { outcome_of result ≡ walk space (tree_of rule) self.now.slots.now }
     {
         match rule {
-            Rule::Plain(n) | Rule::Resting(n) | Rule::Number(n) => Outcome::Is(n),
+            Rule::Plain(n) | Rule::Resting(n) | Rule::Done(n) | Rule::Number(n) => Outcome::Is(n),
             Rule::Same(p) => self.same(p),
             Rule::Next(p) => self.next(p),
             Rule::Sum(p, q) => self.sum(p, q),

@@ -57,7 +57,7 @@ macro_rules! case {
     };
 }
 
-static CASES: [Case; 14] = [
+static CASES: [Case; 15] = [
     case!(&[] => &[], &[], 0),
     // two places that read each other
     case!(&[Rule::Next(1), Rule::Next(0)] => &[slot!(Suspended 0), slot!(Active 1)], &[found!(0, &[1])], 3),
@@ -87,6 +87,8 @@ static CASES: [Case; 14] = [
     case!(&[Rule::Next(1), Rule::Plain(4294967295)] => &[fault!(0, Overflow), slot!(Plain 4294967295)], &[], 1),
     // what stands suspended is left as it is, and no loop is found there
     case!(&[Rule::Sum(1, 2), Rule::Resting(7), Rule::Same(1)] => &[slot!(Active 14), slot!(Resting 7), slot!(Active 7)], &[], 3),
+    // what is done as the settle begins isn't evaluated
+    case!(&[Rule::Next(1), Rule::Done(4), Rule::Next(0)] => &[slot!(Active 5), slot!(Active 4), slot!(Active 6)], &[], 2),
 ];
 
 fn are_loops(found: &[LoopFound<usize>], loops: &[Loop]) -> bool {
