@@ -28,7 +28,7 @@ pub trait Field {
     ghost use Rattle.settling.specs.Phases.{phase_of, Moves, begun, halted, left};
 
     /// Names a place.
-    type Place: Copy;
+    type Place: Copy + Ord;
 
     /// What contracts see of the value of a place.
     type Value;

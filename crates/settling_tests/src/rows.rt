@@ -8,8 +8,8 @@ struct Loop {
     chain: &'static [usize],
 }
 
-/// Expressions, what each place has once they are settled, the loops in the order in which they are found, and
-/// how many evaluations there are.
+/// Expressions, what each place has once they are settled, the loops in the order of their places, and how many
+/// evaluations there are.
 struct Case {
     rules: &'static [Rule],
     slots: &'static [Slot],
@@ -70,14 +70,14 @@ static CASES: [Case; 15] = [
     case!(&[Rule::Sum(1, 2), Rule::Next(0), Rule::Next(0)] => &[slot!(Suspended 0), slot!(Active 1), slot!(Active 1)], &[found!(0, &[1])], 4),
     // the last place reads both of those under way, and goes on
     case!(&[Rule::Next(1), Rule::Next(2), Rule::Sum(1, 0)] => &[slot!(Suspended 0), slot!(Suspended 0), slot!(Active 0)],
-        &[found!(1, &[2]), found!(0, &[1, 2])], 5),
+        &[found!(0, &[1, 2]), found!(1, &[2])], 5),
     // the loop is entered at the last place, which is the suspended one
     case!(&[Rule::Next(3), Rule::Next(2), Rule::Next(3), Rule::Next(1)] =>
         &[slot!(Active 1), slot!(Active 2), slot!(Active 1), slot!(Suspended 0)], &[found!(3, &[1, 2])], 7),
     // two loops
     case!(&[Rule::Same(3), Rule::Next(2), Rule::Next(1), Rule::Next(4), Rule::Next(3)] =>
         &[slot!(Active 0), slot!(Suspended 0), slot!(Active 1), slot!(Suspended 0), slot!(Active 1)],
-        &[found!(3, &[4]), found!(1, &[2])], 8),
+        &[found!(1, &[2]), found!(3, &[4])], 8),
     // another place decides whether there is a loop
     case!(&[Rule::Choice(1, 0, 2), Rule::Number(0), Rule::Number(5)] => &[slot!(Active 5), slot!(Active 0), slot!(Active 5)], &[], 5),
     case!(&[Rule::Choice(1, 0, 2), Rule::Number(3), Rule::Number(5)] => &[slot!(Suspended 0), slot!(Active 3), slot!(Active 5)],
