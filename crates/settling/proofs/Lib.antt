@@ -14,3 +14,4 @@ pub mod Going
 pub mod Rounds
 pub mod Paying
 pub mod Paid
+pub mod Permuted

@@ -16,16 +16,19 @@ pub enum Phase {
 /// Places whose expressions read each other, with their values.
 ///
 /// Contracts see a `state`, in which each place has a cell, the `tree` of what each place's expression reads,
-/// the `places` to visit, in order, and a count of `evaluations`, which each one raises by one at most.
+/// the `places` to visit, in order, and a count of `evaluations`, which each one raises by one at most. Where a
+/// field holds references through which it writes, `loans` names them, so that who lent them learns what is
+/// written.
 pub trait Field {
-    ghost use Rattle.std.specs.Prelude.{◌≡◌, ◌<◌, ◌≤◌, ℕ, suc, Some, List, length, slice_get, IfOk};
+    ghost use Rattle.std.specs.Prelude.{◌≡◌, ◌<◌, ◌≤◌, ℕ, suc, Some, List, [], length, slice_get, IfOk};
+    ghost use Rattle.std.specs.Borrow.{GName};
     ghost use Rattle.settling.specs.Runs.{Run};
     ghost use Rattle.settling.specs.Spaces.{Space};
     ghost use Rattle.settling.specs.Evaluations.{evaluated};
     ghost use Rattle.settling.specs.Phases.{phase_of, Moves, begun, halted, left};
 
     /// Names a place.
-    type Place: Copy;
+    type Place: Copy + Ord;
 
     /// What contracts see of the value of a place.
     type Value;
@@ -46,8 +49,10 @@ pub trait Field {
 
     ghost evaluations: { Self → ℕ };
 
+    ghost loans: { Self → List GName } = { λ _. [] };
+
     /// Whether two names are of one place.
-    fn are_same(p: Self::Place, q: Self::Place) -> bool
+    fn are_same(&self, p: Self::Place, q: Self::Place) -> bool
         ensures { result ≡ space.are_same p q };
 
     /// How many places are to be visited.
@@ -69,7 +74,8 @@ pub trait Field {
         ensures state { Moves space begun (state self.old) place (state self.new) }
         ensures tree { tree self.new ≡ tree self.old }
         ensures places { places self.new ≡ places self.old }
-        ensures evaluations { evaluations self.new ≡ evaluations self.old };
+        ensures evaluations { evaluations self.new ≡ evaluations self.old }
+        ensures loans { loans self.new ≡ loans self.old };
 
     /// The place was read while its evaluation was under way.
     fn stop(&mut self, place: Self::Place)
@@ -77,7 +83,8 @@ pub trait Field {
         ensures state { Moves space halted (state self.old) place (state self.new) }
         ensures tree { tree self.new ≡ tree self.old }
         ensures places { places self.new ≡ places self.old }
-        ensures evaluations { evaluations self.new ≡ evaluations self.old };
+        ensures evaluations { evaluations self.new ≡ evaluations self.old }
+        ensures loans { loans self.new ≡ loans self.old };
 
     /// The evaluation of a place that was stopped is given up. The place keeps its last value and is suspended.
     fn suspend(&mut self, place: Self::Place)
@@ -85,7 +92,8 @@ pub trait Field {
         ensures state { Moves space left (state self.old) place (state self.new) }
         ensures tree { tree self.new ≡ tree self.old }
         ensures places { places self.new ≡ places self.old }
-        ensures evaluations { evaluations self.new ≡ evaluations self.old };
+        ensures evaluations { evaluations self.new ≡ evaluations self.old }
+        ensures loans { loans self.new ≡ loans self.old };
 
     /// Evaluates a place whose evaluation is under way, from its beginning. At the end its value is written, or
     /// the mark of its fault. Where it reads a place that has no value yet, it answers the first such place,
@@ -97,5 +105,6 @@ pub trait Field {
         ensures ok { IfOk result (λ needed. evaluated space place (tree self.old place) (state self.old) ≡ (needed, state self.new)) }
         ensures tree { tree self.new ≡ tree self.old }
         ensures places { places self.new ≡ places self.old }
-        ensures evaluations { evaluations self.new ≤ suc (evaluations self.old) };
+        ensures evaluations { evaluations self.new ≤ suc (evaluations self.old) }
+        ensures loans { loans self.new ≡ loans self.old };
 }

@@ -12,13 +12,14 @@ use std::alloc::{AllocError, Global};
 /// The places that stand above this one.
 fn chain_above<F: Field>(
     alloc: Global,
+    field: &F,
     stack: &[F::Place],
     place: F::Place,
 ) -> Result<Vec<F::Place>, AllocError>
     ensures { IfOk result (λ chain. chain.items ≡ above F.space place stack.now) }
 {
     for (index, other) in stack.iter().enumerate() {
-        if F::are_same(*other, place) {
+        if field.are_same(*other, place) {
             return Vec::from_slice(alloc, &stack[index + 1..]);
         }
     }
@@ -36,6 +37,7 @@ pub(crate) fn enter<F: Field>(
     ensures stack { OnOk result (stack.new.items ≡ stack.old.items ++ place ∷ []) }
     ensures tree { F.tree field.new ≡ F.tree field.old }
     ensures places { F.places field.new ≡ F.places field.old }
+    ensures loans { F.loans field.new ≡ F.loans field.old }
     ensures evaluations { F.evaluations field.new ≡ F.evaluations field.old }
 {
     stack.push(place)?;
@@ -57,12 +59,13 @@ fn meet<F: Field>(
         stack.new.items (F.state field.new) (map shown loops.new.items)) }
     ensures tree { F.tree field.new ≡ F.tree field.old }
     ensures places { F.places field.new ≡ F.places field.old }
+    ensures loans { F.loans field.new ≡ F.loans field.old }
     ensures evaluations { F.evaluations field.new ≡ F.evaluations field.old }
 {
     if field.phase(place) == Phase::Fresh {
         return enter(field, place, stack);
     }
-    let chain = chain_above::<F>(alloc, stack.as_slice(), place)?;
+    let chain = chain_above(alloc, field, stack.as_slice(), place)?;
     loops.push(LoopFound { place, chain })?;
     field.stop(place);
     Ok(())
@@ -83,6 +86,7 @@ pub(crate) fn turn<F: Field>(
     ensures spends { OnOk result (MaySpend (F.space.at (F.state field.old) top) (F.evaluations field.old) (F.evaluations field.new)) }
     ensures tree { F.tree field.new ≡ F.tree field.old }
     ensures places { F.places field.new ≡ F.places field.old }
+    ensures loans { F.loans field.new ≡ F.loans field.old }
 {
     if field.phase(top) == Phase::Stopped {
         field.suspend(top);

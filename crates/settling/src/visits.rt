@@ -1,4 +1,4 @@
-ghost use Rattle.std.specs.Prelude.{◌≡◌, ◌+◌, ◌≤◌, [], map, OnOk, IfOk};
+ghost use Rattle.std.specs.Prelude.{◌≡◌, ◌+◌, ◌≤◌, [], map, OnOk, IfOk, IsSortedByKey};
 ghost use Rattle.settling.specs.Cells.{is_suspended};
 ghost use Rattle.settling.specs.Settling.{settled, Covers, IsReady};
 ghost use Rattle.settling.specs.Laws.{IsSettled};
@@ -28,6 +28,7 @@ fn visit<F: Field>(
     ensures paid { OnOk result (IsPaid F.space (F.tree field.old) (F.places field.old) (F.evaluations field.old) (F.state field.old) (F.evaluations field.new) [] (F.state field.new)) }
     ensures tree { F.tree field.new ≡ F.tree field.old }
     ensures places { F.places field.new ≡ F.places field.old }
+    ensures loans { F.loans field.new ≡ F.loans field.old }
 {
     if field.phase(place) != Phase::Fresh {
         return Ok(());
@@ -39,11 +40,12 @@ fn visit<F: Field>(
     Ok(())
 }
 
-/// Brings the places of a field up to date: visits them in order, each after what its expression reads. A place
+/// Brings the places of a field up to date (Qt 5 QML Reference, Property Binding; which place of a loop is
+/// stopped is this engine's own rule): visits them in order, each after what its expression reads. A place
 /// that is read while its evaluation is under way gives its last value, and its evaluation is stopped when
 /// control returns to it. It then keeps the last value, is suspended, and is the place of a loop.
 ///
-/// Answers the loops in the order in which they were found. Places that are done as it begins, those that stand
+/// Answers the loops in the order of their places. Places that are done as it begins, those that stand
 /// suspended among them, are left as they are. It recurses nowhere, however deep bindings depend on each other.
 ///
 /// Its only error is that memory ran out. Nothing is then said of the field's state.
@@ -65,6 +67,7 @@ pub fn settle<F: Field>(
     ensures loops { IfOk result
         (λ loops. (p : F.Place) → is_suspended (F.space.at (F.state field.new) p) ≡ has_loop F.space (map shown loops.items) p) }
     ensures once { IfOk result (λ loops. AreOnce F.space (map shown loops.items)) }
+    ensures ordered { IfOk result (λ loops. IsSortedByKey (λ found. found.place) F.Place.cmp loops.items) }
 
     // At most one evaluation for each place that was visited and one for each of its reads over the settled state.
     ensures few { OnOk result
@@ -73,6 +76,7 @@ pub fn settle<F: Field>(
 
     ensures tree { F.tree field.new ≡ F.tree field.old }
     ensures places { F.places field.new ≡ F.places field.old }
+    ensures loans { F.loans field.new ≡ F.loans field.old }
 {
     let mut stack = Vec::new(alloc);
     let mut loops = Vec::new(alloc);
@@ -81,5 +85,6 @@ pub fn settle<F: Field>(
         let place = field.place(index);
         visit(alloc, field, place, &mut stack, &mut loops)?;
     }
+    loops.sort_by_key(|found| found.place)?;
     Ok(loops)
 }

@@ -97,6 +97,7 @@ summed a b = if nat_lt (a + b) 4294967296 then gives (a + b) else faults Overflo
 abbrev pub tree_of : Rule → Run ℕ ℕ Fault
 tree_of (rule.Plain n) = gives n
 tree_of (rule.Resting n) = gives n
+tree_of (rule.Done n) = gives n
 tree_of (rule.Number n) = gives n
 tree_of (rule.Same p) = asks p gives
 tree_of (rule.Next p) = asks p (λ v. summed v 1)
@@ -111,6 +112,7 @@ rule_at rules p = unwrap_or (slice_get rules p) rule.Fails
 abbrev pub first_of : Rule → Slot
 first_of (rule.Plain n) = record { stage = stage.Plain; value = n; mark = None }
 first_of (rule.Resting n) = record { stage = stage.Resting; value = n; mark = None }
+first_of (rule.Done n) = record { stage = stage.Active; value = n; mark = None }
 first_of _ = record { stage = stage.Fresh; value = 0; mark = None }
 
 abbrev pub outcome_of : Answer → Outcome ℕ ℕ Fault

@@ -1,7 +1,6 @@
 //! Tests of settling, over numbered places with small expressions.
 #![tactic(auto)]
 
-#[cfg(test)]
-mod net;
+pub mod net;
 #[cfg(test)]
 mod rows;

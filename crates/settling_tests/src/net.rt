@@ -1,12 +1,12 @@
 //! Numbered places with small expressions.
-ghost use Rattle.std.specs.Prelude.{◌≡◌, ◌<◌, List, length, IfOk, slice_set};
+ghost use Rattle.std.specs.Prelude.{◌≡◌, [], ◌∷◌, ◌<◌, List, length, IfOk, OnOk, slice_set};
 ghost use Rattle.settling.specs.Cells.{clean};
 ghost use Rattle.settling.specs.Runs.{gives, asks};
 ghost use Rattle.settling.specs.Evaluations.{walk};
-ghost use Rattle.settling.specs.Settling.{IsReady, Covers};
+ghost use Rattle.settling.specs.Settling.{IsReady, Covers, settled};
 ghost use Rattle.settling_tests.specs.Nets.{slot_at, rule_at, at, space, summed, tree_of, first_of, outcome_of, upto};
 
-use settling::{Field, Phase};
+use settling::{Field, LoopFound, Phase, settle};
 use sqlite_items::Items;
 use std::alloc::{AllocError, Global};
 
@@ -23,6 +23,8 @@ pub enum Rule {
     Plain(u32),
     /// It stands suspended with this value.
     Resting(u32),
+    /// It was evaluated before, and has this value.
+    Done(u32),
     Number(u32),
     /// The same as a place.
     Same(usize),
@@ -68,9 +70,9 @@ enum Outcome {
 }
 
 #[derive(Drop)]
-pub struct Net {
-    pub rules: Items<Rule>,
-    pub slots: Items<Slot>,
+pub struct Net<'a> {
+    pub rules: &'a [Rule],
+    pub slots: &'a mut Items<Slot>,
     pub evaluations: usize,
 }
 
@@ -81,6 +83,7 @@ fn first_slot(rule: Rule) -> Slot
     let (stage, value) = match rule {
         Rule::Plain(n) => (Stage::Plain, n),
         Rule::Resting(n) => (Stage::Resting, n),
+        Rule::Done(n) => (Stage::Active, n),
         _ => (Stage::Fresh, 0),
     };
     Slot {
@@ -90,24 +93,19 @@ fn first_slot(rule: Rule) -> Slot
     }
 }
 
-impl Net {
-    #[tactic(auto, using(crate::proofs::Numbers::covered))]
-    /// A field of these expressions, of which none was evaluated.
-    pub fn new(alloc: Global, rules: &[Rule]) -> Result<Net, AllocError>
-        ensures rules { IfOk result (λ net. net.rules ≡ rules.now) }
-        ensures ready { IfOk result (λ net. IsReady space net.slots) }
-        ensures covers { IfOk result (λ net. Covers space (upto (length net.slots)) net.slots) }
-    {
-        let slots: Vec<Slot> = rules.iter().map(|rule| first_slot(*rule)).collect(alloc)?;
-        Ok(Net {
-            rules: Items::from_slice(alloc, rules)?,
-            slots: Items::from_vec(slots),
-            evaluations: 0,
-        })
-    }
+/// What the places of these expressions have as a settle begins.
+#[tactic(auto, using(crate::proofs::Numbers::covered))]
+pub fn first_slots(alloc: Global, rules: &[Rule]) -> Result<Items<Slot>, AllocError>
+    ensures ready { IfOk result (IsReady space) }
+    ensures covers { IfOk result (λ slots. Covers space (upto (length slots)) slots) }
+{
+    let slots: Vec<Slot> = rules.iter().map(|rule| first_slot(*rule)).collect(alloc)?;
+    Ok(Items::from_vec(slots))
+}
 
+impl Net<'_> {
     fn slot(&self, place: usize) -> Slot
-        ensures { result ≡ slot_at self.now.slots place }
+        ensures { result ≡ slot_at self.now.slots.now place }
     {
         match self.slots.get(place) {
             Some(slot) => *slot,
@@ -116,7 +114,7 @@ impl Net {
     }
 
     fn rule(&self, place: usize) -> Rule
-        ensures { result ≡ rule_at self.now.rules place }
+        ensures { result ≡ rule_at self.now.rules.now place }
     {
         match self.rules.get(place) {
             Some(rule) => *rule,
@@ -126,7 +124,7 @@ impl Net {
 
     /// The value of a place, where it has one already.
     fn read(&self, place: usize) -> Option<u32>
-        ensures { result ≡ clean (at self.now.slots place) }
+        ensures { result ≡ clean (at self.now.slots.now place) }
     {
         let slot = self.slot(place);
         match slot.stage {
@@ -136,8 +134,11 @@ impl Net {
     }
 
     fn set(&mut self, place: usize, slot: Slot)
-        requires { place < length self.old.slots }
-        ensures { self.new ≡ record self.old { slots = slice_set self.old.slots place slot } }
+        requires { place < length self.old.slots.now }
+        ensures slots { self.new.slots.now ≡ slice_set self.old.slots.now place slot }
+        ensures rules { self.new.rules ≡ self.old.rules }
+        ensures evaluations { self.new.evaluations ≡ self.old.evaluations }
+        ensures same_reference { self.new.slots.ghost_name ≡ self.old.slots.ghost_name }
     {
         self.slots.set(place, slot);
     }
@@ -154,10 +155,10 @@ fn sum_of(a: u32, b: u32) -> Outcome
 }
 
 #[tactic(auto, unfolding(settling::specs::Evaluations::walk))]
-impl Net {
+impl Net<'_> {
     /// The sum of two places.
     fn sum(&self, p: usize, q: usize) -> Outcome
-        ensures { outcome_of result ≡ walk space (tree_of (Rule.Sum p q)) self.now.slots }
+        ensures { outcome_of result ≡ walk space (tree_of (Rule.Sum p q)) self.now.slots.now }
     {
         let Some(a) = self.read(p) else {
             return Outcome::Needs(p);
@@ -169,7 +170,7 @@ impl Net {
     }
 
     fn next(&self, p: usize) -> Outcome
-        ensures { outcome_of result ≡ walk space (tree_of (Rule.Next p)) self.now.slots }
+        ensures { outcome_of result ≡ walk space (tree_of (Rule.Next p)) self.now.slots.now }
     {
         match self.read(p) {
             Some(a) => sum_of(a, 1),
@@ -178,7 +179,7 @@ impl Net {
     }
 
     fn same(&self, p: usize) -> Outcome
-        ensures { outcome_of result ≡ walk space (asks p gives) self.now.slots }
+        ensures { outcome_of result ≡ walk space (asks p gives) self.now.slots.now }
     {
         match self.read(p) {
             Some(a) => Outcome::Is(a),
@@ -187,7 +188,7 @@ impl Net {
     }
 
     fn choice(&self, p: usize, q: usize, r: usize) -> Outcome
-        ensures { outcome_of result ≡ walk space (tree_of (Rule.Choice p q r)) self.now.slots }
+        ensures { outcome_of result ≡ walk space (tree_of (Rule.Choice p q r)) self.now.slots.now }
     {
         match self.read(p) {
             Some(0) => self.same(r),
@@ -197,10 +198,10 @@ impl Net {
     }
 
     fn walk(&self, rule: Rule) -> Outcome
-        ensures { outcome_of result ≡ walk space (tree_of rule) self.now.slots }
+        ensures { outcome_of result ≡ walk space (tree_of rule) self.now.slots.now }
     {
         match rule {
-            Rule::Plain(n) | Rule::Resting(n) | Rule::Number(n) => Outcome::Is(n),
+            Rule::Plain(n) | Rule::Resting(n) | Rule::Done(n) | Rule::Number(n) => Outcome::Is(n),
             Rule::Same(p) => self.same(p),
             Rule::Next(p) => self.next(p),
             Rule::Sum(p, q) => self.sum(p, q),
@@ -210,7 +211,7 @@ impl Net {
     }
 }
 
-impl Field for Net {
+impl Field for Net<'_> {
     type Place = usize;
 
     type Value = u32;
@@ -221,15 +222,17 @@ impl Field for Net {
 
     ghost space = { space };
 
-    ghost state = { λ net. net.slots };
+    ghost state = { λ net. net.slots.now };
 
-    ghost tree = { λ net p. tree_of (rule_at net.rules p) };
+    ghost tree = { λ net p. tree_of (rule_at net.rules.now p) };
 
-    ghost places = { λ net. upto (length net.slots) };
+    ghost places = { λ net. upto (length net.slots.now) };
 
     ghost evaluations = { λ net. net.evaluations };
 
-    fn are_same(p: usize, q: usize) -> bool {
+    ghost loans = { λ net. net.slots.ghost_name ∷ [] };
+
+    fn are_same(&self, p: usize, q: usize) -> bool {
         p == q
     }
 
@@ -315,4 +318,34 @@ impl Field for Net {
             Outcome::Needs(needed) => Ok(Some(needed)),
         }
     }
+}
+
+/// The loops of a settle, and how many evaluations there were.
+#[derive(Drop)]
+pub struct Settled {
+    pub loops: Vec<LoopFound<usize>>,
+    pub evaluations: usize,
+}
+
+/// Settles slots that are lent to a field.
+pub fn settle_slots(
+    alloc: Global,
+    rules: &[Rule],
+    slots: &mut Items<Slot>,
+) -> Result<Settled, AllocError>
+    requires ready { IsReady space slots.old }
+    requires covers { Covers space (upto (length slots.old)) slots.old }
+    ensures { OnOk result
+        (slots.new ≡ settled space (λ p. tree_of (rule_at rules.now p)) (upto (length slots.old)) slots.old) }
+{
+    let mut net = Net {
+        rules,
+        slots,
+        evaluations: 0,
+    };
+    let loops = settle(alloc, &mut net)?;
+    Ok(Settled {
+        loops,
+        evaluations: net.evaluations,
+    })
 }

@@ -1,5 +1,5 @@
-use crate::net::{Fault, Net, Rule, Slot, Stage};
-use settling::{LoopFound, settle};
+use crate::net::{Fault, Rule, Slot, Stage, first_slots, settle_slots};
+use settling::LoopFound;
 use std::alloc::{AllocError, Global};
 use std::test::Fail;
 
@@ -8,8 +8,8 @@ struct Loop {
     chain: &'static [usize],
 }
 
-/// Expressions, what each place has once they are settled, the loops in the order in which they are found, and
-/// how many evaluations there are.
+/// Expressions, what each place has once they are settled, the loops in the order of their places, and how many
+/// evaluations there are.
 struct Case {
     rules: &'static [Rule],
     slots: &'static [Slot],
@@ -57,7 +57,7 @@ macro_rules! case {
     };
 }
 
-static CASES: [Case; 14] = [
+static CASES: [Case; 15] = [
     case!(&[] => &[], &[], 0),
     // two places that read each other
     case!(&[Rule::Next(1), Rule::Next(0)] => &[slot!(Suspended 0), slot!(Active 1)], &[found!(0, &[1])], 3),
@@ -70,14 +70,14 @@ static CASES: [Case; 14] = [
     case!(&[Rule::Sum(1, 2), Rule::Next(0), Rule::Next(0)] => &[slot!(Suspended 0), slot!(Active 1), slot!(Active 1)], &[found!(0, &[1])], 4),
     // the last place reads both of those under way, and goes on
     case!(&[Rule::Next(1), Rule::Next(2), Rule::Sum(1, 0)] => &[slot!(Suspended 0), slot!(Suspended 0), slot!(Active 0)],
-        &[found!(1, &[2]), found!(0, &[1, 2])], 5),
+        &[found!(0, &[1, 2]), found!(1, &[2])], 5),
     // the loop is entered at the last place, which is the suspended one
     case!(&[Rule::Next(3), Rule::Next(2), Rule::Next(3), Rule::Next(1)] =>
         &[slot!(Active 1), slot!(Active 2), slot!(Active 1), slot!(Suspended 0)], &[found!(3, &[1, 2])], 7),
     // two loops
     case!(&[Rule::Same(3), Rule::Next(2), Rule::Next(1), Rule::Next(4), Rule::Next(3)] =>
         &[slot!(Active 0), slot!(Suspended 0), slot!(Active 1), slot!(Suspended 0), slot!(Active 1)],
-        &[found!(3, &[4]), found!(1, &[2])], 8),
+        &[found!(1, &[2]), found!(3, &[4])], 8),
     // another place decides whether there is a loop
     case!(&[Rule::Choice(1, 0, 2), Rule::Number(0), Rule::Number(5)] => &[slot!(Active 5), slot!(Active 0), slot!(Active 5)], &[], 5),
     case!(&[Rule::Choice(1, 0, 2), Rule::Number(3), Rule::Number(5)] => &[slot!(Suspended 0), slot!(Active 3), slot!(Active 5)],
@@ -87,6 +87,8 @@ static CASES: [Case; 14] = [
     case!(&[Rule::Next(1), Rule::Plain(4294967295)] => &[fault!(0, Overflow), slot!(Plain 4294967295)], &[], 1),
     // what stands suspended is left as it is, and no loop is found there
     case!(&[Rule::Sum(1, 2), Rule::Resting(7), Rule::Same(1)] => &[slot!(Active 14), slot!(Resting 7), slot!(Active 7)], &[], 3),
+    // what is done as the settle begins isn't evaluated
+    case!(&[Rule::Next(1), Rule::Done(4), Rule::Next(0)] => &[slot!(Active 5), slot!(Active 4), slot!(Active 6)], &[], 2),
 ];
 
 fn are_loops(found: &[LoopFound<usize>], loops: &[Loop]) -> bool {
@@ -95,12 +97,12 @@ fn are_loops(found: &[LoopFound<usize>], loops: &[Loop]) -> bool {
 }
 
 fn settles(alloc: Global, case: &Case) -> Result<bool, AllocError> {
-    let mut net = Net::new(alloc, case.rules)?;
-    let loops = settle(alloc, &mut net)?;
+    let mut slots = first_slots(alloc, case.rules)?;
+    let settled = settle_slots(alloc, case.rules, &mut slots)?;
     Ok(
-        net.slots.as_slice() == case.slots
-            && are_loops(loops.as_slice(), case.loops)
-            && net.evaluations == case.evaluations,
+        slots.as_slice() == case.slots
+            && are_loops(settled.loops.as_slice(), case.loops)
+            && settled.evaluations == case.evaluations,
     )
 }
 
@@ -120,9 +122,9 @@ fn first_of_chain(alloc: Global, length: usize) -> Result<Option<u32>, AllocErro
         rules.push(Rule::Next(place))?;
     }
     rules.push(Rule::Number(1))?;
-    let mut net = Net::new(alloc, rules.as_slice())?;
-    settle(alloc, &mut net)?;
-    Ok(net.slots.get(0).map(|slot| slot.value))
+    let mut slots = first_slots(alloc, rules.as_slice())?;
+    settle_slots(alloc, rules.as_slice(), &mut slots)?;
+    Ok(slots.get(0).map(|slot| slot.value))
 }
 
 #[test]

@@ -17,7 +17,7 @@ pub returns-in_ok-push-in-Some-clause-turns : goal.returns-in_ok-push-in-Some-cl
 returns-in_ok-push-in-Some-clause-turns g c =
     let under : phase_of (g.F.Field.space.at (g.F.Field.state c.args.field.now) c.args.top) ≡ UnderWay = search rules in
     on_ok c.meet.result
-    (λ meets again. needs_at g.F.Field.space (g.F.Field.tree c.args.field.now) under c.in_ok-needed.ensures.ok c.in-Some.is c.in_ok-push-in-Some.ensures.items meets)
+    (λ meets again. needs_at g.F.Field.space (g.F.Field.tree c.args.field.now) {above = c.push.new.self.items} under c.in_ok-needed.ensures.ok c.in-Some.is c.in_ok-push-in-Some.ensures.items meets)
     c.meet.ensures.meets c.meet.ensures.meets
 
 pub returns-in-None-clause-turns : goal.returns-in-None-clause-turns

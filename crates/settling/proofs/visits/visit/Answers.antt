@@ -25,6 +25,7 @@ loop-top-init g c =
           c.in_ok-enter.ensures.state c.enter.ensures.evaluations;
       tree = c.enter.ensures.tree;
       places = c.enter.ensures.places;
+      loans = c.enter.ensures.loans;
     }
 
 pub loop-top-smaller : goal.loop-top-smaller
@@ -47,4 +48,5 @@ loop-top-preserved g c = record {
       c.in_ok-turn.ensures.spends c.loop-top.invariant.paid;
   tree = c.turn.ensures.tree ∙ c.loop-top.invariant.tree;
   places = c.turn.ensures.places ∙ c.loop-top.invariant.places;
+  loans = c.turn.ensures.loans ∙ c.loop-top.invariant.loans;
 }

@@ -11,6 +11,7 @@ invariant-loop-top g l = record {
   paid : IsPaid g.F.Field.space (g.F.Field.tree l.fn.field) (g.F.Field.places l.fn.field) (g.F.Field.evaluations l.fn.field) (g.F.Field.state l.fn.field) (g.F.Field.evaluations l.field) l.stack.items (g.F.Field.state l.field);
   tree : g.F.Field.tree l.field ≡ g.F.Field.tree l.fn.field;
   places : g.F.Field.places l.field ≡ g.F.Field.places l.fn.field;
+  loans : g.F.Field.loans l.field ≡ g.F.Field.loans l.fn.field;
 }
 
 abbrev pub decreases-loop-top : goal.decreases-loop-top
