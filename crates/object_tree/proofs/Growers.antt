@@ -6,6 +6,7 @@ use Rattle.qml_types.specs.declared.component.Base.TheOpen.{Base-F, ComponentTyp
 use Rattle.qml_types.specs.declared.component.Base.TheVariants as base
 use Rattle.qml_types.specs.declared.component.ComponentType.{ComponentType, out-ComponentType, roll-ComponentType, map-ComponentType, ind-ComponentType}
 use Rattle.qml_types.specs.declared.component.ObjectDecl.{ObjectDecl, out-ObjectDecl, roll-ObjectDecl, map-ObjectDecl, ind-ObjectDecl}
+use Rattle.qml_types.specs.declared.component.Sizes.{Sizes}
 use Rattle.object_tree.specs.Growing.{Grower, BaseGrower, ComponentGrower, ObjectGrower, base_step, component_step, object_step, component_again, decl_in, component_in, component_grower, base_grower, object_grower, grower_of, grower_under, grown_by, built_in_grower, rooted_by, below_by, root_declared, next_serial, last_context, object_rooted, object_placed, object_grown, with_grown}
 use Rattle.object_tree.specs.Store.{Store}
 
@@ -25,16 +26,16 @@ base_unrolled_b t = search (rules, the_lemmas)
 base_unrolled_d : (c : ComponentType) → (base_grower (base.Document c)).base ≡ base.Document (component_grower c).component
 base_unrolled_d c = search (rules, the_lemmas)
 
-pub component_unrolled : (c : ComponentType) → component_grower c ≡ component_step (record { file = (out-ComponentType c).file; objects = map object_grower (out-ComponentType c).objects })
+pub component_unrolled : (c : ComponentType) → component_grower c ≡ component_step (record { file = (out-ComponentType c).file; objects = map object_grower (out-ComponentType c).objects; sizes = (out-ComponentType c).sizes })
 component_unrolled c = search (rules, the_lemmas)
 
 pub object_unrolled : (o : ObjectDecl) →
     object_grower o ≡ object_step (map-ObjectDecl Base ComponentType ObjectDecl BaseGrower ComponentGrower ObjectGrower base_grower component_grower object_grower (out-ObjectDecl o))
 object_unrolled o = search (rules, the_lemmas)
 
-component_rolled : (file : List ℕ) (objects : List ObjectDecl) →
-    component_grower (roll-ComponentType (record { file = file; objects = objects })) ≡ component_step (record { file = file; objects = map object_grower objects })
-component_rolled file objects = search (rules, the_lemmas)
+component_rolled : (file : List ℕ) (objects : List ObjectDecl) (sizes : Sizes) →
+    component_grower (roll-ComponentType (record { file = file; objects = objects; sizes = sizes })) ≡ component_step (record { file = file; objects = map object_grower objects; sizes = sizes })
+component_rolled file objects sizes = search (rules, the_lemmas)
 
 object_rolled : (y : ObjectDecl-F Base ComponentType ObjectDecl) →
     object_grower (roll-ObjectDecl y) ≡ object_step (map-ObjectDecl Base ComponentType ObjectDecl BaseGrower ComponentGrower ObjectGrower base_grower component_grower object_grower y)
@@ -66,8 +67,8 @@ module _ (B C O : Type 0) (b : B → Base) (c : C → ComponentType) (o : O → 
 
   component_level : (y : ComponentType-F B C O) → SameComponent (roll-ComponentType (map-ComponentType B C O Base ComponentType ObjectDecl b c o y))
   component_level y =
-      ap (λ (g : ComponentGrower). g.component) (component_rolled y.file (map o y.objects))
-      ∙ ap (λ os. roll-ComponentType (record { file = y.file; objects = os })) (decls_same y.objects)
+      ap (λ (g : ComponentGrower). g.component) (component_rolled y.file (map o y.objects) y.sizes)
+      ∙ ap (λ os. roll-ComponentType (record { file = y.file; objects = os; sizes = y.sizes })) (decls_same y.objects)
 
   object_level : (y : ObjectDecl-F B C O) → SameDecl (roll-ObjectDecl (map-ObjectDecl B C O Base ComponentType ObjectDecl b c o y))
   object_level y = within y.inner
@@ -97,7 +98,7 @@ pub grower_is : (c : ComponentType) → grower_of c ≡ grown_by c (map object_g
 unfolding grower_of
 grower_is c =
     let level = component_unrolled c in
-    let self : component_again (record { file = (out-ComponentType c).file; objects = map object_grower (out-ComponentType c).objects }) ≡ c = ap (λ (g : ComponentGrower). g.component) (sym level) ∙ same_component c in
+    let self : component_again (record { file = (out-ComponentType c).file; objects = map object_grower (out-ComponentType c).objects; sizes = (out-ComponentType c).sizes }) ≡ c = ap (λ (g : ComponentGrower). g.component) (sym level) ∙ same_component c in
     ap (λ (g : ComponentGrower). g.grower) level ∙ ap (λ d. grown_by d (map object_grower (out-ComponentType c).objects)) self
 
 pub base_is : (o : ObjectDecl) → (object_grower o).base ≡ grower_under (out-ObjectDecl o).base

@@ -187,7 +187,7 @@ component_in component = component.component
 
 -- the component itself
 abbrev pub component_again : ComponentType-F BaseGrower ComponentGrower ObjectGrower → ComponentType
-component_again component = roll-ComponentType (record { file = component.file; objects = map decl_in component.objects })
+component_again component = roll-ComponentType (record { file = component.file; objects = map decl_in component.objects; sizes = component.sizes })
 
 abbrev pub component_step : ComponentType-F BaseGrower ComponentGrower ObjectGrower → ComponentGrower
 component_step component = record { component = component_again component; grower = grown_by (component_again component) component.objects }
