@@ -1,7 +1,6 @@
 //! Tests of the evaluation of expressions, as they stand in documents.
 #![tactic(auto)]
 
-#[cfg(test)]
-mod fake;
+pub mod fake;
 #[cfg(test)]
 mod tests;
