@@ -1,5 +1,8 @@
 //! Stores that documents make.
 
+ghost use Rattle.std.specs.Prelude.{IfOk};
+ghost use Rattle.qml_types.specs.Sized.{IsSized};
+
 use object_tree::{MakeFault, Objects};
 use qml_ast::{DocFault, Name};
 use qml_parse::parse;
@@ -8,7 +11,9 @@ use shared_value::Shared;
 use std::alloc::Global;
 
 /// What a text declares.
-fn compiled(alloc: Global, text: &str, known: &Known) -> Result<ComponentType, DocFault> {
+fn compiled(alloc: Global, text: &str, known: &Known) -> Result<ComponentType, DocFault>
+    ensures { IfOk result IsSized }
+{
     if text.len() > 1_000_000 {
         return Err(DocFault::NoMemory);
     }
