@@ -9,17 +9,14 @@ use Rattle.qml_ast.specs.declared.span.Span.{Span}
 use Rattle.qml_types.specs.declared.component.Base.{Base}
 use Rattle.qml_types.specs.declared.component.Base.TheVariants as base
 use Rattle.qml_types.specs.declared.component.ComponentType.{ComponentType, roll-ComponentType}
-use Rattle.qml_types.specs.declared.component.HandlerDecl.{HandlerDecl}
-use Rattle.qml_types.specs.declared.component.InitDecl.{InitDecl}
-use Rattle.qml_types.specs.declared.component.MethodDecl.{MethodDecl}
 use Rattle.qml_types.specs.declared.component.ObjectDecl.{ObjectDecl, roll-ObjectDecl}
 use Rattle.qml_types.specs.declared.component.Role.TheVariants as role
-use Rattle.qml_types.specs.declared.component.SignalDecl.{SignalDecl}
 use Rattle.qml_types.specs.declared.component.Sizes.{Sizes}
-use Rattle.qml_types.specs.declared.component.SlotDecl.{SlotDecl}
+use Rattle.qml_types.specs.declared.content.Content.{Content}
+use Rattle.qml_types.specs.Contents.{content_in}
 use Rattle.qml_types.specs.Known.{KnownTypes}
 use Rattle.qml_types.specs.Parts.{Part, Reading, Stand}
-use Rattle.qml_types.specs.Placed.{component_of, component_with, inner_of, object_of, with_part, with_object, slots_in, signals_in, methods_in, inits_in, handlers_in, ids_in, first_of_all}
+use Rattle.qml_types.specs.Placed.{component_of, component_with, inner_of, object_of, with_part, with_object}
 use Rattle.qml_types.specs.Readings.{part_of, reading_of, scope_of}
 use Rattle.qml_types.specs.Scope.{Scope}
 use Rattle.qml_types.specs.Sizes.{sizes_of}
@@ -36,16 +33,37 @@ component_placed known file copied reading start objects sizes fresh same all co
     ∙ ap (component_with file) (all ∙ ap (reading.placed known (record { file = file; owner = None; role = role.Root })) fresh))
 
 -- an object with what its members declare
-pub object_made : (scope : Scope) (stand : Stand) (at : Span) (parts : List Part) (b : Base) (i : Option (List ℕ)) (s : List SlotDecl) (g : List SignalDecl)
-    (m : List MethodDecl) (n : List InitDecl) (h : List HandlerDecl) (inner : Option ComponentType) →
-    b ≡ unwrap_or scope.type (base.BuiltIn built_in.QtObject) → i ≡ first_of_all (flat_map ids_in parts) → s ≡ flat_map (slots_in scope.known) parts →
-    g ≡ flat_map (signals_in scope.known) parts → m ≡ flat_map methods_in parts → n ≡ flat_map inits_in parts → h ≡ flat_map handlers_in parts →
-    inner ≡ inner_of scope stand.file parts →
-    roll-ObjectDecl (record { base = b; owner = stand.owner; role = stand.role; id = i; slots = s; signals = g; methods = m; inits = n; handlers = h; inner = inner; span = at })
+pub object_made : (scope : Scope) (stand : Stand) (at : Span) (parts : List Part) (content : Content) (b : Base) (inner : Option ComponentType) →
+    content ≡ content_in scope.known parts → b ≡ unwrap_or scope.type (base.BuiltIn built_in.QtObject) → inner ≡ inner_of scope stand.file parts →
+    roll-ObjectDecl (record {
+      base = b;
+      owner = stand.owner;
+      role = stand.role;
+      id = content.id;
+      slots = content.interface.slots;
+      signals = content.interface.signals;
+      methods = content.interface.methods;
+      inits = content.behaviour.inits;
+      handlers = content.behaviour.handlers;
+      inner = inner;
+      span = at;
+    })
     ≡ object_of scope stand at parts
 unfolding object_of
-object_made scope stand at parts b i s g m n h inner eb ei es eg em en eh einner =
-    λ j. roll-ObjectDecl (record { base = eb j; owner = stand.owner; role = stand.role; id = ei j; slots = es j; signals = eg j; methods = em j; inits = en j; handlers = eh j; inner = einner j; span = at })
+object_made scope stand at parts content b inner same based declares =
+    λ j. roll-ObjectDecl (record {
+      base = based j;
+      owner = stand.owner;
+      role = stand.role;
+      id = (same j).id;
+      slots = (same j).interface.slots;
+      signals = (same j).interface.signals;
+      methods = (same j).interface.methods;
+      inits = (same j).behaviour.inits;
+      handlers = (same j).behaviour.handlers;
+      inner = declares j;
+      span = at;
+    })
 
 placed_joined : (scope : Scope) (at : Span) (parts : List Part) (stand : Stand) (objects : List ObjectDecl) →
     fold (with_part scope stand.file (length objects)) (objects ++ object_of scope stand at parts ∷ []) parts ≡ with_object scope at parts stand objects

@@ -5,6 +5,7 @@ pub mod Scope
 pub mod Parts
 pub mod Rules
 pub mod Placed
+pub mod Contents
 pub mod Readings
 pub mod Compiled
 pub mod Mentions

@@ -4,6 +4,7 @@
 
 pub mod compiling;
 pub mod component;
+pub mod content;
 mod declaring;
 mod document_rules;
 mod features;

@@ -6,7 +6,8 @@ ghost use Rattle.qml_types.specs.Types.{scope_seen};
 ghost use Rattle.qml_types.specs.declared.component.Role.TheVariants.{Value};
 
 use crate::component::{Base, ComponentType, ObjectDecl, Role};
-use crate::declaring::{base_for, handlers_of, id_of, inits_of, methods_of, signals_of, slots_of};
+use crate::content::{Behaviour, Content, Interface, content_of};
+use crate::declaring::base_for;
 use crate::kinds::kind_named;
 use crate::known::Known;
 use crate::object_scope::ObjectScope;
@@ -75,14 +76,20 @@ fn object_of(
 ) -> Result<ObjectDecl, AllocError>
     ensures { IfOk result (λ object. object ≡ object_of (scope_seen scope.now) (record { file = file.now; owner = owner; role = role }) at (map part_of members.now)) }
 {
+    let content = content_of(alloc, scope.known, members)?;
     let inner = inner_of(alloc, scope, file, members)?;
     let base = base_for(scope.named)?;
-    let id = id_of(alloc, members)?;
-    let slots = slots_of(alloc, scope.known, members)?;
-    let signals = signals_of(alloc, scope.known, members)?;
-    let methods = methods_of(alloc, members)?;
-    let inits = inits_of(alloc, members)?;
-    let handlers = handlers_of(alloc, members)?;
+    let Content {
+        id,
+        interface,
+        behaviour,
+    } = content;
+    let Interface {
+        slots,
+        signals,
+        methods,
+    } = interface;
+    let Behaviour { inits, handlers } = behaviour;
     Ok(ObjectDecl {
         base,
         owner,

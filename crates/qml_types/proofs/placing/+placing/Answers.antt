@@ -27,5 +27,4 @@ component_of-returns t c =
 pub object_of-returns : goal.object_of-returns
 object_of-returns t c =
     object_made (scope_seen c.args.scope.now) (record { file = c.args.file.now; owner = c.args.owner; role = c.args.role }) c.args.at (map part_of c.args.members.now)
-    c.in_ok-base.base c.in_ok-id.id c.in_ok-slots.slots c.in_ok-signals.signals c.in_ok-methods.methods c.in_ok-inits.inits c.in_ok-handlers.handlers c.in_ok-inner.inner
-    c.in_ok-base.ensures c.in_ok-id.ensures c.in_ok-slots.ensures c.in_ok-signals.ensures c.in_ok-methods.ensures c.in_ok-inits.ensures c.in_ok-handlers.ensures c.in_ok-inner.ensures
+    c.in_ok-content.content c.in_ok-base.base c.in_ok-inner.inner c.in_ok-content.ensures c.in_ok-base.ensures c.in_ok-inner.ensures
