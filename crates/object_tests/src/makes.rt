@@ -27,7 +27,9 @@ pub fn component(
     alloc: Global,
     first: &str,
     text: &str,
-) -> Result<Shared<ComponentType>, DocFault> {
+) -> Result<Shared<ComponentType>, DocFault>
+    ensures { IfOk result IsSized }
+{
     let mut known = Known::new(alloc);
     let inner = Shared::new(alloc, compiled(alloc, first, &known)?)?;
     known.add(Name::new(alloc, "A")?, inner)?;

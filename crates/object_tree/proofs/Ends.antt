@@ -1,5 +1,5 @@
 -- Where the numbers of settles begin again.
-use Rattle.std.proofs.Common.{zero, suc, ◌≡◌, ℕ, ◌+◌, refl, add-one}
+use Rattle.std.proofs.Common.{◌≡◌, ℕ, ◌+◌, refl, add-one}
 use Rattle.object_tree.specs.declared.instance.Instance.{Instance}
 use Rattle.object_tree.specs.Properties.{restarted}
 use Rattle.object_tree.specs.Store.{Store}

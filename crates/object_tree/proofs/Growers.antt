@@ -1,5 +1,5 @@
 -- Growers of components, one level at a time.
-use Rattle.std.proofs.Common.{◌≡◌, ◌∙◌, ℕ, ◌-◌, ◌<◌, ◌≤◌, Bool, map, fold, drop, length, get_or, true, false, List, [], ◌∷◌, Option, None, Some, option_map, refl, sym, ap, subst, rules, arith}
+use Rattle.std.proofs.Common.{◌≡◌, ◌∙◌, ℕ, ◌-◌, ◌<◌, ◌≤◌, Bool, map, fold, drop, length, get_or, List, [], ◌∷◌, Option, None, Some, refl, sym, ap, subst, rules, arith}
 use Rattle.type_table.specs.declared.built_in.BuiltIn.{BuiltIn}
 use Rattle.qml_types.specs.declared.component.Base.{Base, roll-Base, map-Base, the_lemmas}
 use Rattle.qml_types.specs.declared.component.Base.TheOpen.{Base-F, ComponentType-F, ObjectDecl-F}
@@ -7,7 +7,7 @@ use Rattle.qml_types.specs.declared.component.Base.TheVariants as base
 use Rattle.qml_types.specs.declared.component.ComponentType.{ComponentType, out-ComponentType, roll-ComponentType, map-ComponentType, ind-ComponentType}
 use Rattle.qml_types.specs.declared.component.ObjectDecl.{ObjectDecl, out-ObjectDecl, roll-ObjectDecl, map-ObjectDecl, ind-ObjectDecl}
 use Rattle.qml_types.specs.declared.component.Sizes.{Sizes}
-use Rattle.object_tree.specs.Growing.{Grower, BaseGrower, ComponentGrower, ObjectGrower, base_step, component_step, object_step, component_again, decl_in, component_in, component_grower, base_grower, object_grower, grower_of, grower_under, grown_by, built_in_grower, rooted_by, below_by, root_declared, next_serial, last_context, object_rooted, object_placed, object_grown, with_grown}
+use Rattle.object_tree.specs.Growing.{Grower, BaseGrower, ComponentGrower, ObjectGrower, component_step, object_step, component_again, decl_in, component_grower, base_grower, object_grower, grower_of, grower_under, grown_by, built_in_grower, rooted_by, below_by, root_declared, next_serial, last_context, object_rooted, object_placed, object_grown, with_grown}
 use Rattle.object_tree.specs.Store.{Store}
 
 -- ---- what they are growers of

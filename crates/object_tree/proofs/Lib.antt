@@ -1,6 +1,5 @@
 pub mod Turns
 pub mod Growers
-pub mod Counts
 pub mod Lookups
 pub mod Ends
 pub mod Walks

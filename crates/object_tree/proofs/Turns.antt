@@ -1,9 +1,8 @@
 -- Loops that go through a list.
-use Rattle.std.proofs.Common.{zero, suc, ◌≡◌, ◌∙◌, ℕ, ◌+◌, ◌<◌, ◌≤◌, List, [], ◌∷◌, ◌++◌, length, get_or, map, fold, take, drop, Bool, true, false, cond, Option, None, Some, refl, sym, ap, subst, add-one, arith}
+use Rattle.std.proofs.Common.{zero, suc, ◌≡◌, ◌∙◌, ℕ, ◌+◌, ◌<◌, List, [], ◌∷◌, length, get_or, map, fold, take, drop, Bool, true, false, cond, Option, None, Some, refl, sym, ap, subst, add-one, arith}
 use Rattle.std.specs.Prelude.{slice_get, position, IsSomeAnd}
 use Rattle.std.specs.List.{position_from}
 use Rattle.std.proofs.lemmas.Iterator.Adapters.{position_from-zero}
-use Rattle.std.specs.Option.{option_map}
 
 -- what is left to be added, with the item at hand added
 left_after : {X A B : Type 0} (g : B → A → B) (f : X → A) (xs : List X) (i : ℕ) (x : A) (b : B) → IsSomeAnd (slice_get xs i) (λ y. x ≡ f y) →

@@ -1,8 +1,8 @@
 -- The objects of one making, in their order.
-use Rattle.std.specs.Prelude.{ℕ, ◌+◌, ◌-◌, ◌^◌, min, Bool, true, false, ◌&&◌, if◌then◌else◌, Option, None, Some, option_and_then, option_map, List, [], ◌∷◌, ◌++◌, map, fold, length, slice_get}
+use Rattle.std.specs.Prelude.{ℕ, ◌+◌, ◌-◌, ◌^◌, min, Bool, true, false, ◌&&◌, if◌then◌else◌, Option, None, Some, option_map, List, [], ◌∷◌, ◌++◌, map, fold, length, slice_get}
 use Rattle.arena.specs.Arena.{with_next}
 use Rattle.type_table.specs.Names.{signals, methods}
-use Rattle.type_table.specs.Slots.{slots, is_item}
+use Rattle.type_table.specs.Slots.{is_item}
 use Rattle.type_table.specs.declared.built_in.BuiltIn.{BuiltIn}
 use Rattle.type_table.specs.declared.item_slots.TheConstants.{PARENT}
 use Rattle.qml_ast.specs.declared.value.Value.TheVariants as value
@@ -11,10 +11,8 @@ use Rattle.qml_types.specs.declared.component.Base.TheVariants as base
 use Rattle.qml_types.specs.declared.component.Base.TheOpen.{Base-F, ComponentType-F, ObjectDecl-F}
 use Rattle.qml_types.specs.declared.component.ComponentType.{ComponentType, roll-ComponentType, fold-ComponentType}
 use Rattle.qml_types.specs.declared.component.ObjectDecl.{ObjectDecl, out-ObjectDecl, roll-ObjectDecl, fold-ObjectDecl}
-use Rattle.qml_types.specs.declared.component.Role.{Role}
 use Rattle.object_tree.specs.declared.context.Context.{Context}
 use Rattle.object_tree.specs.declared.instance.Instance.{Instance}
-use Rattle.object_tree.specs.declared.instance.Layer.{Layer}
 use Rattle.object_tree.specs.declared.property.Property.{Property}
 use Rattle.object_tree.specs.Names.{with_name}
 use Rattle.object_tree.specs.Reading.{instance_at}

@@ -1,5 +1,5 @@
 -- What documents declare of an object.
-use Rattle.std.specs.Prelude.{ℕ, ◌-◌, Option, None, Some, List, [], ◌∷◌, length, nat_lt, if◌then◌else◌, option_and_then, option_map, slice_get}
+use Rattle.std.specs.Prelude.{ℕ, ◌-◌, Option, None, Some, List, [], length, nat_lt, if◌then◌else◌, option_map, slice_get}
 use Rattle.std.specs.List.{flat_map}
 use Rattle.type_table.specs.Slots.{slots, NamedSlot}
 use Rattle.qml_types.specs.declared.component.ComponentType.{out-ComponentType}

@@ -7,7 +7,6 @@ pub mod Reading
 pub mod Writing
 pub mod Making
 pub mod Growing
-pub mod Counting
 pub mod Looking
 pub mod First
 pub mod Settled

@@ -1,14 +1,17 @@
 -- What is not made.
-use Rattle.std.specs.Prelude.{◌≡◌, ℕ, ◌+◌, ◌-◌, ◌^◌, nat_lt, Bool, ◌||◌, if◌then◌else◌, Option, None, Some, Result, Ok, Err, length}
+use Rattle.std.specs.Prelude.{◌≡◌, ℕ, ◌+◌, ◌-◌, ◌^◌, min, nat_lt, Bool, ◌||◌, if◌then◌else◌, Option, None, Some, Result, Ok, Err, length}
 use Rattle.qml_types.specs.declared.component.ComponentType.{ComponentType}
 use Rattle.qml_types.specs.Sizes.{objects_made, contexts_made, levels_made}
 use Rattle.object_tree.specs.declared.fault.MakeFault.{MakeFault}
 use Rattle.object_tree.specs.declared.fault.MakeFault.TheVariants.{Full, Deep, NoMemory}
 use Rattle.object_tree.specs.declared.instance.Instance.{Instance}
-use Rattle.object_tree.specs.Counting.{capped}
 use Rattle.object_tree.specs.Growing.{grown, next_serial}
 use Rattle.object_tree.specs.Reading.{instance_at}
 use Rattle.object_tree.specs.Store.{Store}
+
+-- a number that is counted up to 2^64 - 1
+abbrev pub capped : ℕ → ℕ
+capped n = min n (2 ^ 64 - 1)
 
 -- there would be more than 100,000 objects, or a serial or the number of a context would pass 2^64 - 1
 abbrev pub is_full : ComponentType → Store → Bool

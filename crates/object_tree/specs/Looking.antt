@@ -1,5 +1,5 @@
 -- What names stand for.
-use Rattle.std.specs.Prelude.{ℕ, zero, suc, ◌+◌, ◌-◌, bytes_eq, codes, if◌then◌else◌, Option, None, Some, option_and_then, option_map, unwrap_or, List, [], ◌∷◌, length, slice_get}
+use Rattle.std.specs.Prelude.{ℕ, zero, suc, bytes_eq, codes, if◌then◌else◌, Option, None, Some, option_and_then, option_map, List, length, slice_get}
 use Rattle.std.specs.Option.{option_or}
 use Rattle.type_table.specs.Names.{signals, methods, place_in}
 use Rattle.type_table.specs.Slots.{find_slot, has_group}
@@ -9,7 +9,6 @@ use Rattle.qml_ast.specs.declared.place.Side.TheVariants.{Shown}
 use Rattle.expr_eval.specs.declared.found.Found.{Found}
 use Rattle.expr_eval.specs.declared.found.Found.TheVariants as found
 use Rattle.expr_eval.specs.declared.found.Frame.{Frame}
-use Rattle.expr_eval.specs.declared.found.GlobalName.{GlobalName}
 use Rattle.expr_eval.specs.declared.found.GlobalName.TheVariants as global
 use Rattle.expr_eval.specs.declared.found.GroupName.{GroupName}
 use Rattle.expr_eval.specs.declared.found.GroupName.TheVariants as group

@@ -1,11 +1,9 @@
 -- What one making of a component adds to a store.
-use Rattle.std.specs.Prelude.{ℕ, ◌+◌, ◌-◌, min, Bool, true, false, nat_eq, ◌&&◌, if◌then◌else◌, Option, None, Some, option_and_then, option_map, unwrap_or, List, [], ◌∷◌, ◌++◌, map, fold, length, slice_get}
+use Rattle.std.specs.Prelude.{ℕ, ◌+◌, Bool, true, false, nat_eq, if◌then◌else◌, Option, None, Some, option_map, List, [], ◌∷◌, ◌++◌, map, fold, length}
 use Rattle.std.specs.Option.{option_or}
-use Rattle.arena.specs.Arena.{with_next}
-use Rattle.type_table.specs.Names.{signals, methods}
-use Rattle.type_table.specs.Slots.{slots, find_slot, is_item, NamedSlot}
+use Rattle.type_table.specs.Slots.{slots, find_slot, NamedSlot}
 use Rattle.type_table.specs.declared.built_in.BuiltIn.{BuiltIn}
-use Rattle.type_table.specs.declared.item_slots.TheConstants.{PARENT, LEFT, RIGHT, TOP, BOTTOM, HORIZONTAL_CENTER}
+use Rattle.type_table.specs.declared.item_slots.TheConstants.{LEFT, RIGHT, TOP, BOTTOM, HORIZONTAL_CENTER}
 use Rattle.type_table.specs.declared.slot.Initial.{Initial}
 use Rattle.type_table.specs.declared.slot.Initial.TheVariants as initial
 use Rattle.type_table.specs.declared.slot.Slot.{Slot}
@@ -15,7 +13,6 @@ use Rattle.qml_ast.specs.declared.value.Edge.{Edge}
 use Rattle.qml_ast.specs.declared.value.Edge.TheVariants as edge
 use Rattle.qml_ast.specs.declared.value.Value.{Value}
 use Rattle.qml_ast.specs.declared.value.Value.TheVariants as value
-use Rattle.qml_types.specs.declared.component.ComponentType.{ComponentType}
 use Rattle.qml_types.specs.declared.component.InitDecl.{InitDecl}
 use Rattle.qml_types.specs.declared.component.MethodDecl.{MethodDecl}
 use Rattle.qml_types.specs.declared.component.ObjectDecl.{ObjectDecl, out-ObjectDecl}
@@ -24,7 +21,6 @@ use Rattle.qml_types.specs.declared.component.Role.TheVariants as role
 use Rattle.qml_types.specs.declared.component.SignalDecl.{SignalDecl}
 use Rattle.qml_types.specs.declared.component.SlotDecl.{SlotDecl}
 use Rattle.qml_types.specs.Scope.{dotted}
-use Rattle.object_tree.specs.declared.context.Context.{Context}
 use Rattle.object_tree.specs.declared.instance.Feature.{Feature}
 use Rattle.object_tree.specs.declared.instance.Feature.TheVariants as feature
 use Rattle.object_tree.specs.declared.instance.Instance.{Instance}
@@ -32,9 +28,7 @@ use Rattle.object_tree.specs.declared.instance.Layer.{Layer}
 use Rattle.object_tree.specs.declared.property.Held.{Held}
 use Rattle.object_tree.specs.declared.property.Property.{Property}
 use Rattle.object_tree.specs.Names.{named, with_name}
-use Rattle.object_tree.specs.Reading.{instance_at}
-use Rattle.object_tree.specs.Store.{Store}
-use Rattle.object_tree.specs.Writing.{with_item, with_instance, with_property}
+use Rattle.object_tree.specs.Writing.{with_property}
 
 -- ---- slots
 -- the line that a slot of items has the number of

@@ -1,5 +1,5 @@
 -- What a store holds.
-use Rattle.std.specs.Prelude.{ℕ, ◌+◌, ◌^◌, nat_lt, Bool, true, false, not, ◌||◌, if◌then◌else◌, Option, None, Some, is_some, is_none, option_and_then, option_map, List, [], ◌∷◌, length, slice_get}
+use Rattle.std.specs.Prelude.{ℕ, ◌+◌, ◌^◌, nat_lt, Bool, false, ◌||◌, if◌then◌else◌, Option, None, Some, is_some, is_none, option_and_then, option_map, slice_get}
 use Rattle.std.specs.Option.{option_or}
 use Rattle.arena.specs.Arena.{thing_at, next_above}
 use Rattle.type_table.specs.declared.slot.SlotInfo.{SlotInfo}
@@ -7,7 +7,6 @@ use Rattle.qml_ast.specs.declared.place.Place.{Place}
 use Rattle.qml_ast.specs.declared.place.Side.TheVariants.{Set, Shown}
 use Rattle.qml_ast.specs.declared.value.Value.{Value}
 use Rattle.qml_ast.specs.declared.value.Value.TheVariants as value
-use Rattle.qml_ast.specs.declared.value.LineRef.{LineRef}
 use Rattle.object_tree.specs.declared.instance.Instance.{Instance}
 use Rattle.object_tree.specs.declared.property.Binding.{Binding}
 use Rattle.object_tree.specs.declared.property.Held.{Held}

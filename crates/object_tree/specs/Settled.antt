@@ -1,7 +1,6 @@
 -- What a store means to expressions.
-use Rattle.std.specs.Prelude.{ℕ, Bool, Option, None, unwrap_or}
+use Rattle.std.specs.Prelude.{Bool, None, unwrap_or}
 use Rattle.qml_ast.specs.declared.place.Place.{Place}
-use Rattle.qml_ast.specs.declared.value.Value.{Value}
 use Rattle.qml_ast.specs.declared.value.Value.TheVariants.{Obj}
 use Rattle.expr_eval.specs.Meanings.{Meanings}
 use Rattle.object_tree.specs.Looking.{looked_up, member_of}

@@ -1,7 +1,6 @@
 -- What slots take, and what is written to them.
-use Rattle.std.specs.Prelude.{◌≡◌, ℕ, nat_eq, Bool, true, false, if◌then◌else◌, Option, None, Some, Result, Ok, Err, is_some, option_map, List}
+use Rattle.std.specs.Prelude.{◌≡◌, ℕ, true, false, Option, None, Some, Result, Ok, Err, is_some, option_map}
 use Rattle.color_text.specs.Spelled.{spelled_color}
-use Rattle.type_table.specs.declared.built_in.BuiltIn.{BuiltIn}
 use Rattle.type_table.specs.declared.built_in.BuiltIn.TheVariants as built_in
 use Rattle.type_table.specs.declared.slot.Kind.{Kind}
 use Rattle.type_table.specs.declared.slot.Kind.TheVariants as kind
@@ -13,7 +12,7 @@ use Rattle.qml_ast.specs.declared.place.Place.{Place}
 use Rattle.qml_ast.specs.declared.value.Value.{Value}
 use Rattle.qml_ast.specs.declared.value.Value.TheVariants as value
 use Rattle.object_tree.specs.declared.instance.Instance.{Instance}
-use Rattle.object_tree.specs.Reading.{instance_at, info_at}
+use Rattle.object_tree.specs.Reading.{instance_at}
 use Rattle.object_tree.specs.Store.{Store}
 use Rattle.object_tree.specs.Writing.{written}
 

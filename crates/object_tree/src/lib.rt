@@ -2,7 +2,6 @@
 #![tactic(auto)]
 
 pub mod context;
-mod counting;
 mod declaring;
 pub mod fault;
 pub mod instance;

@@ -5,12 +5,12 @@ ghost use Rattle.object_tree.specs.Store.{Store};
 ghost use Rattle.object_tree.specs.Writing.{with_instance};
 ghost use Rattle.object_tree.specs.Making.{given_object, is_child};
 ghost use Rattle.object_tree.specs.Growing.{depth_below, is_visual_in, in_parent, shown_as_parent, new_instance, with_child, next_serial, born, with_serial, with_id, new_context, with_context, last_context, with_changed_context, context_at, serials_of, owner_in, serial_in, declared, grower_of, grower_under, object_rooted, object_placed, with_grown, object_grower};
+ghost use Rattle.qml_types.specs.Sized.{IsSized};
 ghost use Rattle.qml_types.specs.declared.component.ObjectDecl.{out-ObjectDecl};
 ghost use Rattle.object_tree.specs.Growing.{grown};
 ghost use Rattle.object_tree.specs.Limits.{is_full, depth_of, is_deep, make_fault, Tells, Makes};
 
 use crate::context::Context;
-use crate::counting::{context_count, level_count, object_count};
 use crate::declaring::{is_child, new_properties};
 use crate::fault::MakeFault;
 use crate::instance::{Instance, Layer, Object};
@@ -389,10 +389,11 @@ impl Objects {
 impl Objects {
     // Whether there would be too many objects, serials or contexts.
     fn is_full(&self, component: &ComponentType) -> bool
+        requires { IsSized component.now }
         ensures { result ≡ is_full component.now self.now }
     {
-        let objects = object_count(component);
-        let contexts = context_count(component);
+        let objects = component.object_count();
+        let contexts = component.context_count();
         let live = self.objects.len() as u64;
         if live.saturating_add(objects) > MOST_OBJECTS {
             return true;
@@ -412,17 +413,13 @@ impl Objects {
     }
 
     // Whether an object would stand too deep.
-    fn is_deep(
-        &self,
-        alloc: Global,
-        component: &ComponentType,
-        parent: u64,
-    ) -> Result<bool, AllocError>
-        ensures { IfOk result (λ deep. deep ≡ is_deep component.now parent self.now) }
+    fn is_deep(&self, component: &ComponentType, parent: u64) -> bool
+        requires { IsSized component.now }
+        ensures { result ≡ is_deep component.now parent self.now }
     {
-        let levels = level_count(alloc, component)?;
+        let levels = u64::from(component.depth());
         let depth = u64::from(self.depth_of(parent));
-        Ok(depth.saturating_add(levels) > MOST_LEVELS)
+        depth + levels > MOST_LEVELS
     }
 
     // Makes all objects of a component.
@@ -446,7 +443,8 @@ impl Objects {
 
     /// Makes all objects of a component, its root first, in a live object and as its child, with the next serials
     /// and the next numbers of contexts. Around it may be the context in which an inline component is declared.
-    /// It gives the root's serial.
+    /// It gives the root's serial. The component is one that `compile` gave: what it says of its sizes is
+    /// so, and they are asked before anything is made.
     ///
     /// # Errors
     ///
@@ -462,13 +460,14 @@ impl Objects {
         parent: u64,
         around: Option<u64>,
     ) -> Result<u64, MakeFault>
+        requires sized { IsSized component.now }
         ensures tells { Tells (make_fault component.now parent self.old) result }
         ensures makes { Makes component.now parent around self.old self.new result }
     {
         if self.is_full(component.get()) {
             return Err(MakeFault::Full);
         }
-        if self.is_deep(alloc, component.get(), parent)? {
+        if self.is_deep(component.get(), parent) {
             return Err(MakeFault::Deep);
         }
         let serial = self.grow(alloc, component, parent, around)?;
