@@ -47,7 +47,7 @@ same_item below other viewport (Some p) same =
     (same_content (below (inside viewport p)) (other (inside viewport p)) (inside viewport p) p (same p refl (inside viewport p)))
 
 -- where there is no item, nothing is painted
-nothing : (levels : ℕ) (tree : Tree) (viewport : Viewport) (serial : ℕ) → tree serial ≡ None → paint_within levels tree viewport serial ≡ []
+pub nothing : (levels : ℕ) (tree : Tree) (viewport : Viewport) (serial : ℕ) → tree serial ≡ None → paint_within levels tree viewport serial ≡ []
 unfolding paint_within
 nothing zero tree viewport serial is = refl
 nothing (suc levels) tree viewport serial is = ap (painted_item (paint_within levels tree) viewport) is

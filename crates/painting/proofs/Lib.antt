@@ -1,2 +1,2 @@
 mod Areas
-mod Levels
+pub mod Levels
