@@ -13,8 +13,8 @@ const BLUE: u32 = 0xff00_00ff;
 type Shape = ([i64; 4], u32);
 
 /// Rectangles that are filled in order on a canvas of 3 by 2 pixels, and a letter for each of its
-/// pixels then: red, green, blue or white.
-const PAINTED: [(&[Shape], &str); 22] = [
+/// pixels then: red, green, blue or white, half red over white, and half red over that.
+const PAINTED: [(&[Shape], &str); 24] = [
     (&[([0, 0, 3, 2], RED)], "RRRRRR"),
     (&[([1, 0, 3, 1], RED)], "WRRWWW"),
     // partly outside, at each side
@@ -37,6 +37,12 @@ const PAINTED: [(&[Shape], &str); 22] = [
     (&[([i64::MIN, 0, 2, 1], RED)], "RRWWWW"),
     (&[([2, 0, i64::MAX, i64::MAX], RED)], "WWRWWR"),
     (&[([i64::MAX, 0, i64::MIN, 2], RED)], "WWWWWW"),
+    // nothing of a colour, and half of one twice
+    (&[([0, 0, 3, 2], 0x00ff_0000)], "WWWWWW"),
+    (
+        &[([0, 0, 2, 1], 0x80ff_0000), ([1, 0, 3, 1], 0x80ff_0000)],
+        "HQHWWW",
+    ),
     // one over another
     (&[], "WWWWWW"),
     (&[([0, 0, 2, 2], RED), ([1, 1, 3, 2], BLUE)], "RRWRBB"),
@@ -51,7 +57,7 @@ const PAINTED: [(&[Shape], &str); 22] = [
     ),
 ];
 
-/// Fills a rectangle by its edges with an opaque colour.
+/// Fills a rectangle by its edges with a colour.
 fn fill_edges(canvas: &mut Canvas, edges: [i64; 4], argb: u32) {
     let [left, top, right, bottom] = edges;
     let area = ClipRect {
@@ -60,9 +66,7 @@ fn fill_edges(canvas: &mut Canvas, edges: [i64; 4], argb: u32) {
         right,
         bottom,
     };
-    if argb >= 0xff00_0000 {
-        fill(canvas, area, argb);
-    }
+    fill(canvas, area, argb);
 }
 
 /// What is written of a canvas of 3 by 2 pixels on which the rectangles were filled in order.
@@ -86,6 +90,8 @@ fn pixmap(alloc: Global, pixels: &str) -> Result<Vec<u8>, AllocError> {
             b'R' => &[255, 0, 0],
             b'G' => &[0, 255, 0],
             b'B' => &[0, 0, 255],
+            b'H' => &[255, 127, 127],
+            b'Q' => &[255, 63, 63],
             _ => &[255, 255, 255],
         })?;
     }

@@ -1,21 +1,12 @@
--- Laws of drawings: their size, their bytes, and what one more opaque shape does to them.
-use Rattle.std.proofs.Common.{◌≡◌, ℕ, ◌*◌, ◌/◌, ◌%◌, ◌^◌, ◌<◌, ◌≤◌, List, [], ◌∷◌, ◌++◌, length, get_or, cond, sym, ap, ◌∙◌, refl, arith}
+-- Laws of drawings: their size, their bytes, and what one more shape does to them.
+use Rattle.std.proofs.Common.{◌≡◌, ℕ, ◌/◌, ◌%◌, ◌<◌, List, [], ◌∷◌, ◌++◌, length, get_or, map, sym, ap, ◌∙◌, refl, arith}
 use Rattle.std.specs.Prelude.{replicate}
+use Rattle.std.specs.List.{range_with_len}
 use Rattle.std.proofs.lemmas.List.{get_or-replicate, length-replicate}
 use Rattle.std.proofs.lemmas.List.Sums.{fold-append}
 use Rattle.std.proofs.lemmas.List.FromFn.{fill_by_all, get_or-map-range_with_len, length-map-range_with_len}
-use Rattle.item_geometry.specs.declared.clip_rect.ClipRect.{ClipRect}
 use Rattle.rect_raster.specs.Picture.{picture_of, byte_count}
-use Rattle.rect_raster.specs.Drawing.{Shape, shape_of, covers, alpha_of, channel_of, blended, channel_after, channel_at, byte_at, drawing}
-
--- an opaque colour leaves nothing of what lies below
-pub blended_opaque : (source below : ℕ) → blended source 255 below ≡ source
-blended_opaque source below = omega arith
-
--- the highest byte of an opaque colour
-pub alpha_of_opaque : (argb : ℕ) → 255 * 2 ^ 24 ≤ argb → argb < 2 ^ 32 → alpha_of argb ≡ 255
-unfolding alpha_of
-alpha_of_opaque argb low high = omega arith
+use Rattle.rect_raster.specs.Drawing.{Shape, channel_after, channel_at, byte_after, byte_at, painted_over, drawing}
 
 -- a shape comes after those before it
 pub channel_at-push : (shapes : List Shape) (shape : Shape) (column row channel : ℕ)
@@ -28,16 +19,11 @@ pub byte_at-nil : (width k : ℕ) → byte_at width [] k ≡ 255
 unfolding byte_at channel_at
 byte_at-nil width k = refl
 
--- an opaque shape gives its pixels its colour
-pub byte_at-push : (width : ℕ) (shapes : List Shape) (area : ClipRect) (argb k : ℕ) → 255 * 2 ^ 24 ≤ argb → argb < 2 ^ 32
-    → byte_at width (shapes ++ shape_of area argb ∷ []) k
-    ≡ cond (covers area (k / 3 % width) (k / 3 / width)) (channel_of argb (k % 3)) (byte_at width shapes k)
+-- a shape is painted over what those before it make
+pub byte_at-push : (width : ℕ) (shapes : List Shape) (shape : Shape) (k : ℕ)
+    → byte_at width (shapes ++ shape ∷ []) k ≡ channel_after (k / 3 % width) (k / 3 / width) (k % 3) (byte_at width shapes k) shape
 unfolding byte_at
-byte_at-push width shapes area argb k low high =
-    channel_at-push shapes (shape_of area argb) (k / 3 % width) (k / 3 / width) (k % 3)
-    ∙ ap (λ source. cond (covers area (k / 3 % width) (k / 3 / width)) source (channel_at shapes (k / 3 % width) (k / 3 / width) (k % 3)))
-    (ap (λ alpha. blended (channel_of argb (k % 3)) alpha (channel_at shapes (k / 3 % width) (k / 3 / width) (k % 3))) (alpha_of_opaque argb low high)
-    ∙ blended_opaque (channel_of argb (k % 3)) (channel_at shapes (k / 3 % width) (k / 3 / width) (k % 3)))
+byte_at-push width shapes shape k = channel_at-push shapes shape (k / 3 % width) (k / 3 / width) (k % 3)
 
 -- a picture of this size whose bytes are the drawing's is the drawing
 pub drawing-from_bytes : (width height : ℕ) (shapes : List Shape) (pixels : List ℕ) → length pixels ≡ byte_count width height
@@ -73,3 +59,27 @@ get_or-drawing width height shapes k h = get_or-map-range_with_len (byte_at widt
 pub length-drawing : (width height : ℕ) (shapes : List Shape) → length (drawing width height shapes).pixels ≡ byte_count width height
 unfolding drawing
 length-drawing width height shapes = length-map-range_with_len (byte_at width shapes) 0 (byte_count width height)
+
+-- what a byte of a drawing is after one more shape
+byte_after-drawing : (width height : ℕ) (shapes : List Shape) (shape : Shape) (k : ℕ) → k < byte_count width height
+    → byte_after width shape (drawing width height shapes).pixels k ≡ byte_at width (shapes ++ shape ∷ []) k
+byte_after-drawing width height shapes shape k h =
+    ap (λ below. channel_after (k / 3 % width) (k / 3 / width) (k % 3) below shape) (get_or-drawing width height shapes k h)
+    ∙ sym (byte_at-push width shapes shape k)
+
+-- one more shape over a drawing makes the drawing of the shapes with that one
+pub painted_over-drawing : (width height : ℕ) (shapes : List Shape) (shape : Shape)
+    → painted_over shape (drawing width height shapes) ≡ drawing width height (shapes ++ shape ∷ [])
+unfolding painted_over
+painted_over-drawing width height shapes shape =
+    let old = drawing width height shapes in
+    let count = length old.pixels in
+    let bytes = map (byte_after width shape old.pixels) (range_with_len 0 count) in
+    let all : length bytes ≡ byte_count width height =
+    length-map-range_with_len (byte_after width shape old.pixels) 0 count ∙ length-drawing width height shapes in
+    (λ i. picture_of (width-drawing width height shapes i) (height-drawing width height shapes i) (map (byte_after (width-drawing width height shapes i) shape old.pixels) (range_with_len 0 count)))
+    ∙ drawing-from_bytes width height (shapes ++ shape ∷ []) bytes all
+    (λ k h.
+    let within : k < count = omega (arith, length-drawing width height shapes) in
+    get_or-map-range_with_len (byte_after width shape old.pixels) 0 count k k 0 within (omega arith)
+    ∙ byte_after-drawing width height shapes shape k h)

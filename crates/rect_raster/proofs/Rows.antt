@@ -1,13 +1,13 @@
 -- The bytes of a row's part, and of a canvas after a row is filled.
-use Rattle.std.proofs.Common.{◌≡◌, ℕ, ◌+◌, ◌-◌, ◌*◌, ◌/◌, ◌%◌, ◌<◌, ◌≤◌, ⊎_elim, true, List, length, get_or, EachIndex, sym, ap, ◌∙◌, cond, arith, rules}
+use Rattle.std.proofs.Common.{◌≡◌, ℕ, ◌+◌, ◌-◌, ◌*◌, ◌/◌, ◌%◌, ◌<◌, ◌≤◌, ⊎_elim, true, false, List, length, get_or, take, drop, EachIndex, sym, ap, ◌∙◌, cond, arith, rules}
 use Rattle.std.proofs.lemmas.Bool.Decides.{nat_tests}
 use Rattle.std.proofs.lemmas.Nat.{div-mul-add, mod-mul-add, div-add-mod'}
-use Rattle.std.proofs.lemmas.List.{places}
+use Rattle.std.proofs.lemmas.List.{places, get_or-take, get_or-drop}
 use Rattle.std.proofs.lemmas.Bool.{cases_lt}
 use borrow.Rule.Slice.PartMut.{put_mid}
 use Rattle.rect_raster.specs.declared.area.Area.{Area}
-use Rattle.rect_raster.specs.Drawing.{channel_of}
-use Rattle.rect_raster.specs.Bytes.{has_pixel, has_byte, Filled}
+use Rattle.rect_raster.specs.Drawing.{channel_of, alpha_of, blended}
+use Rattle.rect_raster.specs.Bytes.{has_pixel, has_byte, painted, IsPattern, IsPainted}
 
 -- a pixel in the row's part stands in that row and between its columns
 pub row_part : (area : Area) (width row p : ℕ) → area.right ≤ width → row * width + area.left ≤ p → p < row * width + area.right
@@ -50,7 +50,18 @@ module _ (before part : List ℕ) (a n k : ℕ) where
 pub length-put_mid : (before part : List ℕ) (a n : ℕ) → a + n ≤ length before → length part ≡ n → length (put_mid a n before part) ≡ length before
 length-put_mid before part a n fits whole = search (rules, places)
 
-module _ (area : Area) (width row argb : ℕ) (old before part : List ℕ) where
+-- before its row is painted, the area down to it does not have a pixel of that row
+pub has_pixel-before : (area : Area) (row column r : ℕ) → r ≡ row → has_pixel (record area { bottom = row }) column r ≡ false
+has_pixel-before area row column r row_is = grind (arith, nat_tests)
+
+-- what a repeated pattern has at a place
+pub pattern_at : (argb k : ℕ) (pattern : List ℕ) → length pattern ≡ 48 → IsPattern argb pattern → get_or pattern (k % 48) 0 ≡ channel_of argb (k % 3)
+pattern_at argb k pattern sized is =
+    let within : k % 48 < length pattern = omega arith in
+    let same : k % 48 % 3 ≡ k % 3 = omega arith in
+    is (k % 48) within ∙ ap (channel_of argb) same
+
+module _ (area : Area) (width row argb : ℕ) (old before pattern part : List ℕ) where
   -- where the row's part begins in the canvas, in bytes
   abbrev from : ℕ
   from = 3 * (row * width + area.left)
@@ -70,26 +81,44 @@ module _ (area : Area) (width row argb : ℕ) (old before part : List ℕ) where
   more = record area { bottom = row + 1 }
 
   module _ (ordered : area.left ≤ area.right) (within : area.right ≤ width) (started : area.top ≤ row) (fits : 3 * (row * width + area.right) ≤ length before)
-      (whole : length part ≡ count) (coloured : EachIndex part (λ k. get_or part k 0 ≡ channel_of argb (k % 3))) (filled : Filled above width argb old before) where
-    byte_in : (k : ℕ) → from ≤ k → k < from + count → get_or after k 0 ≡ cond (has_byte more width k) (channel_of argb (k % 3)) (get_or old k 0)
+      (whole : length part ≡ count) (sized : length pattern ≡ 48) (is : IsPattern argb pattern)
+      (coloured : EachIndex part (λ k. get_or part k 0 ≡ blended (get_or pattern (k % 48) 0) (alpha_of argb) (get_or (take count (drop from before)) k 0)))
+      (done : IsPainted above width argb old before) where
+    -- a byte of the row's part before it is painted
+    part_before : (k : ℕ) → from ≤ k → k < from + count → get_or (take count (drop from before)) (k - from) 0 ≡ get_or before k 0
+    part_before k low high =
+        let small : k - from < count = omega arith in
+        let place : from + (k - from) ≡ k = omega arith in
+        get_or-take count (drop from before) (k - from) 0 small ∙ get_or-drop from before (k - from) 0 ∙ ap (λ n. get_or before n 0) place
+
+    -- and it is as it was at first
+    byte_before : (k : ℕ) → k / 3 / width ≡ row → k < length before → get_or before k 0 ≡ get_or old k 0
+    byte_before k row_is bound =
+        let not_yet : has_byte above width k ≡ false = has_pixel-before area row (k / 3 % width) (k / 3 / width) row_is in
+        done k bound ∙ ap (λ b. cond b (painted argb k (get_or old k 0)) (get_or old k 0)) not_yet
+
+    byte_in : (k : ℕ) → from ≤ k → k < from + count → get_or after k 0 ≡ cond (has_byte more width k) (painted argb k (get_or old k 0)) (get_or old k 0)
     byte_in k low high =
         let part_of = row_part area width row (k / 3) within (omega arith) (omega arith) in
         let has : has_byte more width k ≡ true = has_pixel-in_part area row (k / 3 % width) (k / 3 / width) part_of.0 part_of.1 part_of.2 started in
         let same : (k - from) % 3 ≡ k % 3 = omega arith in
         let read : get_or after k 0 ≡ get_or part (k - from) 0 = get_or-put_mid_in before part from count k (omega arith) whole low high in
-        let colour : get_or part (k - from) 0 ≡ channel_of argb ((k - from) % 3) = coloured (k - from) (omega arith) in
-        rw has (read ∙ colour ∙ ap (channel_of argb) same)
+        let colour : get_or pattern ((k - from) % 48) 0 ≡ channel_of argb (k % 3) = pattern_at argb (k - from) pattern sized is ∙ ap (channel_of argb) same in
+        let below : get_or (take count (drop from before)) (k - from) 0 ≡ get_or old k 0 =
+        part_before k low high ∙ byte_before k part_of.0 (omega arith) in
+        rw has
+        (read ∙ coloured (k - from) (omega arith) ∙ (λ i. blended (colour i) (alpha_of argb) (below i)))
 
     byte_past : (k : ℕ) → k < length before → get_or after k 0 ≡ get_or before k 0 → (from ≤ k → k < from + count → ⊥)
-        → get_or after k 0 ≡ cond (has_byte more width k) (channel_of argb (k % 3)) (get_or old k 0)
+        → get_or after k 0 ≡ cond (has_byte more width k) (painted argb k (get_or old k 0)) (get_or old k 0)
     byte_past k h read past =
         let has : has_byte more width k ≡ has_byte above width k =
         has_pixel-past_part area row (k / 3 % width) (k / 3 / width) (λ row_is low high. let place = row_part_has area width row (k / 3) row_is low high in past (omega arith) (omega arith)) in
-        rw has (read ∙ filled k h)
+        rw has (read ∙ done k h)
 
-    -- one row more is filled
-    pub Filled-more : Filled more width argb old after
-    Filled-more k h =
+    -- one row more is painted
+    pub IsPainted-more : IsPainted more width argb old after
+    IsPainted-more k h =
         let bound : k < length before = omega (arith, length-put_mid before part from count (omega arith) whole) in
         ⊎_elim (λ below. byte_past k bound (get_or-put_mid_below before part from count k (omega arith) below) (λ low high. omega arith))
         (λ low. ⊎_elim (λ high. byte_in k low high)

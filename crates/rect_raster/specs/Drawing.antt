@@ -1,5 +1,5 @@
 -- What a list of rectangles, painted in order over white, looks like.
-use Rattle.std.specs.Prelude.{ℕ, ◌+◌, ◌-◌, ◌*◌, ◌/◌, ◌%◌, ◌^◌, pos, Bool, if◌then◌else◌, List, map, fold}
+use Rattle.std.specs.Prelude.{ℕ, ◌+◌, ◌-◌, ◌*◌, ◌/◌, ◌%◌, ◌^◌, pos, Bool, if◌then◌else◌, List, map, fold, length, slice_index}
 use Rattle.std.specs.List.{range_with_len}
 use Rattle.item_geometry.specs.declared.clip_rect.ClipRect.{ClipRect}
 use Rattle.item_geometry.specs.Clip.{has_point}
@@ -34,11 +34,21 @@ abbrev pub channel_after : ℕ → ℕ → ℕ → ℕ → Shape → ℕ
 channel_after column row channel below shape =
     if covers shape.area column row then blended (channel_of shape.argb channel) (alpha_of shape.argb) below else below
 
+-- byte k of pixels after one more shape: byte k is channel k % 3 of pixel k / 3, and rows of pixels follow each other
+abbrev pub byte_after : ℕ → Shape → List ℕ → ℕ → ℕ
+byte_after width shape pixels k = channel_after (k / 3 % width) (k / 3 / width) (k % 3) (slice_index pixels k) shape
+
+-- a picture after one more shape: each pixel that the shape has gets its colour over what it was, and each
+-- other pixel stays
+unfoldable pub painted_over : Shape → Picture → Picture
+painted_over shape picture =
+    record picture { pixels = map (byte_after picture.width shape picture.pixels) (range_with_len 0 (length picture.pixels)) }
+
 -- a channel of a pixel: white, and then each shape in order
 unfoldable pub channel_at : List Shape → ℕ → ℕ → ℕ → ℕ
 channel_at shapes column row channel = fold (channel_after column row channel) 255 shapes
 
--- byte k is channel k % 3 of pixel k / 3, and rows of pixels follow each other
+-- a byte of what shapes make
 unfoldable pub byte_at : ℕ → List Shape → ℕ → ℕ
 byte_at width shapes k = channel_at shapes (k / 3 % width) (k / 3 / width) (k % 3)
 

@@ -1,12 +1,12 @@
-ghost use Rattle.std.specs.Prelude.{◌≡◌, ℕ, ◌*◌, ◌^◌, ◌≤◌, List, [], ◌∷◌, ◌++◌, IfOk, OnOk, OnErr};
+ghost use Rattle.std.specs.Prelude.{◌≡◌, ℕ, ◌≤◌, List, [], ◌∷◌, ◌++◌, IfOk, OnOk, OnErr};
 ghost use Rattle.std.specs.Io.KnownBytes.{Appends};
 ghost use Rattle.outside.specs.Bytes.{AppendsPart};
 ghost use Rattle.outside.specs.Count.{Rose};
 ghost use Rattle.rect_raster.specs.Picture.{ppm};
-ghost use Rattle.rect_raster.specs.Drawing.{Shape, shape_of, drawing};
+ghost use Rattle.rect_raster.specs.Drawing.{Shape, shape_of, painted_over, drawing};
 
 use crate::area::clipped;
-use crate::bytes::fill_area;
+use crate::bytes::paint_area;
 use item_geometry::ClipRect;
 use outside::{Sink, SinkFailed, write_whole};
 use std::alloc::{AllocError, Global};
@@ -56,10 +56,11 @@ impl Canvas {
     }
 }
 
-/// Fills a rectangle, as far as the canvas has it, with a colour: 255 for opaque, red, green and blue,
-/// from the highest byte to the lowest.
+/// Paints a rectangle, as far as the canvas has it, with a colour: alpha, red, green and blue, from the
+/// highest byte to the lowest. Each of its pixels is then the colour over what the pixel was: a channel `d`
+/// becomes `(s * a + d * (255 - a) + 127) / 255`, where `s` is the colour's channel and `a` its alpha.
 pub fn fill(canvas: &mut Canvas, rect: ClipRect, argb: u32)
-    requires { 255 * 2 ^ 24 ≤ argb }
+    ensures over { canvas.new ≡ painted_over (shape_of rect argb) canvas.old }
 
     // Whatever shapes the canvas showed before, it shows those and then this one.
     ensures drawn { (width height : ℕ) (shapes : List Shape) → canvas.old ≡ drawing width height shapes
@@ -67,7 +68,7 @@ pub fn fill(canvas: &mut Canvas, rect: ClipRect, argb: u32)
 {
     let area = clipped(rect, canvas.width, canvas.height);
     let width = canvas.width as usize;
-    fill_area(&mut canvas.pixels, width, area, argb);
+    paint_area(&mut canvas.pixels, width, area, argb);
 }
 
 /// Writes a canvas as a binary pixmap, Netpbm's P6. It fails where a write of the sink failed, and the

@@ -1,4 +1,4 @@
-//! A canvas of pixels that opaque rectangles are filled into, written as a binary pixmap.
+//! A canvas of pixels that rectangles are painted on, written as a binary pixmap.
 #![tactic(auto)]
 
 mod area;

@@ -1,0 +1,2 @@
+mod Areas
+pub mod Levels
