@@ -4,3 +4,6 @@ pub mod Counts
 pub mod Lookups
 pub mod Ends
 pub mod Walks
+pub mod Same
+pub mod Resumed
+pub mod Listed

@@ -1,5 +1,4 @@
-use Rattle.std.proofs.Common.{ℕ, ◌≡◌, ◌∙◌, ◌+◌, ◌<◌, ◌^◌, lit≤, map, sum, ap, sym, arith}
-use Rattle.qml_types.specs.declared.component.ComponentType.{out-ComponentType}
+use Rattle.std.proofs.Common.{ℕ, ◌≡◌, ◌∙◌, ◌+◌, lit≤, map, sum, ap, sym, arith}
 use Rattle.qml_types.specs.Sizes.{contexts_made}
 use Rattle.object_tree.specs.Counting.{capped, base_contexts_of}
 use Rattle.object_tree.proofs.Counts.{contexts_in, contexts_unrolled, document_contexts, built_in_contexts, all_counted}

@@ -1,9 +1,8 @@
-use Rattle.std.proofs.Common.{ℕ, List, [], ◌≡◌, ◌∙◌, IfOk, map, ap, sym, subst, arith}
+use Rattle.std.proofs.Common.{ℕ, [], ◌≡◌, ◌∙◌, IfOk, map, ap, sym, subst, arith}
 use Rattle.std.specs.Prelude.{max}
-use Rattle.qml_types.specs.declared.component.ComponentType.{out-ComponentType}
 use Rattle.qml_types.specs.Sizes.{levels_made, greatest}
 use Rattle.object_tree.specs.Counting.{base_levels_of}
-use Rattle.object_tree.proofs.Counts.{level_in, levels_unrolled, document_levels, built_in_levels, higher, highest}
+use Rattle.object_tree.proofs.Counts.{level_in, levels_unrolled, document_levels, built_in_levels}
 use Rattle.object_tree.proofs.counting.+levels.Goals as goal
 
 pub base_levels-returns-in-BuiltIn : goal.base_levels-returns-in-BuiltIn

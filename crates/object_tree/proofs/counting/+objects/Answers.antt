@@ -1,5 +1,4 @@
-use Rattle.std.proofs.Common.{◌≡◌, ◌∙◌, ◌+◌, ◌<◌, ◌^◌, lit≤, map, sum, ap, sym, zero-add, arith}
-use Rattle.qml_types.specs.declared.component.ComponentType.{out-ComponentType}
+use Rattle.std.proofs.Common.{◌∙◌, lit≤, map, sum, ap, sym, zero-add}
 use Rattle.qml_types.specs.Sizes.{objects_made}
 use Rattle.object_tree.specs.Counting.{capped, base_objects_of}
 use Rattle.object_tree.proofs.Counts.{objects_in, objects_unrolled, document_objects, built_in_objects, all_counted}

@@ -1,4 +1,4 @@
-use Rattle.std.proofs.Common.{◌≡◌, ◌∙◌, None, Some, option_copied, ap, sym}
+use Rattle.std.proofs.Common.{◌∙◌, option_copied, ap, sym}
 use Rattle.qml_types.specs.Sizes.{level_of}
 use Rattle.object_tree.proofs.Counts.{level_found, level_lost}
 use Rattle.object_tree.proofs.counting.level_of.Goals as goal

@@ -1,4 +1,4 @@
-use Rattle.std.proofs.Common.{◌≡◌, ◌∙◌, List, ℕ, false, ap, sym}
+use Rattle.std.proofs.Common.{◌≡◌, List, ℕ, false}
 use Rattle.std.specs.Prelude.{bytes_eq}
 use Rattle.type_table.specs.Slots.{slots}
 use Rattle.qml_types.specs.Scope.{dotted}

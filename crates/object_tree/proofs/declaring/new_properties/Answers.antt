@@ -1,4 +1,4 @@
-use Rattle.std.proofs.Common.{◌≡◌, ◌∙◌, ◌+◌, ap, sym, fold, map, drop}
+use Rattle.std.proofs.Common.{◌∙◌, ◌+◌, ap, sym, fold, map, drop}
 use Rattle.type_table.specs.Slots.{slots}
 use Rattle.object_tree.specs.Making.{with_new, info_of}
 use Rattle.object_tree.proofs.Turns.{left}

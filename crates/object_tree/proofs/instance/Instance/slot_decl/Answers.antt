@@ -1,4 +1,4 @@
-use Rattle.std.proofs.Common.{◌≡◌, ◌∙◌, ap, sym}
+use Rattle.std.proofs.Common.{◌∙◌, ap, sym}
 use Rattle.std.specs.Prelude.{slice_get}
 use Rattle.object_tree.specs.Layers.{declared_slots}
 use Rattle.object_tree.proofs.Walks.{layer_has, layer_lacks}

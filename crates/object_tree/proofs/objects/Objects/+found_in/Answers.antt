@@ -1,4 +1,4 @@
-use Rattle.std.proofs.Common.{◌≡◌, ◌∙◌, option_copied, ap, sym}
+use Rattle.std.proofs.Common.{◌∙◌, option_copied, ap, sym}
 use Rattle.object_tree.proofs.Lookups.{found_now}
 use Rattle.object_tree.proofs.objects.Objects.+found_in.Goals as goal
 

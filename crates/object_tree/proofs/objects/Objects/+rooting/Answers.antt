@@ -2,7 +2,7 @@ use Rattle.std.proofs.Common.{◌≡◌, ◌∙◌, OnOk, None, ap, sym, subst}
 use Rattle.object_tree.specs.Store.{Store}
 use Rattle.qml_types.specs.declared.component.ComponentType.{out-ComponentType}
 use Rattle.qml_types.specs.declared.component.ObjectDecl.{out-ObjectDecl}
-use Rattle.object_tree.specs.Growing.{Grower, grower_of, grower_under, built_in_grower, declared, declared_last, next_serial, last_context, root_declared, with_context, new_context}
+use Rattle.object_tree.specs.Growing.{Grower, grower_of, grower_under, built_in_grower, declared, declared_last, next_serial, root_declared, with_context, new_context}
 use Rattle.object_tree.proofs.Growers.{built_in_is, document_grower, rooted_none, rooted_some}
 use Rattle.object_tree.proofs.objects.Objects.+rooting.Goals as goal
 
