@@ -3,21 +3,21 @@
 
 usage: tools/reference.py MAIN SCRIPT > frames.ppm
 
-It shares nothing with the program: documents are read by a small parser of their own into dictionaries, types
-of documents are expanded into one tree of items, and the pixels are painted one by one. It knows no refusals: a
-document that is not drawn, or a script of another form, ends it with an error.
+It shares nothing with the program: documents are read by a small parser of their own into dictionaries and tuples,
+objects are made of them with all that their types bring, slots are brought up to date by plain recursion, and the
+pixels are painted one by one. It knows no refusals: a document that is not drawn, or a script of another form, ends
+it with an error.
 """
 import re
 import sys
 
 WIDTH, HEIGHT = 640, 480
 MOST_OBJECTS, MOST_LEVELS = 99_999, 256
-BUILT_IN = {"QtObject": set(), "Item": {"x", "y", "width", "height"}}
-BUILT_IN["Rectangle"] = BUILT_IN["Item"] | {"color"}
 TOKEN = re.compile(
     r"""(?:[ \t\r\n]|//[^\n]*|/\*.*?\*/)*
         (?:(?P<name>[A-Za-z_]\w*)|(?P<decimal>\d+\.\d+)|(?P<number>0x[0-9a-fA-F]+|\d+)
-          |(?P<text>"(?:[^"\\\n]|\\.)*"|'(?:[^'\\\n]|\\.)*')|(?P<mark>[{}():;,.\-])|(?P<end>$))""",
+          |(?P<text>"(?:[^"\\\n]|\\.)*"|'(?:[^'\\\n]|\\.)*')
+          |(?P<mark>[=!]==?|[<>]=?|&&|\|\||[{}():;,.?+\-*/%!])|(?P<end>$))""",
     re.DOTALL | re.VERBOSE | re.ASCII,
 )
 ESCAPES = {"n": "\n", "t": "\t", "r": "\r", "\\": "\\", '"': '"', "'": "'"}
@@ -40,12 +40,16 @@ def value_of_text(spelled):
 
 
 def color_of(text):
-    """The opaque colour that a text spells, as 0xRRGGBB."""
-    digits = re.fullmatch(r"#([0-9a-fA-F]{3}|[fF]{2}[0-9a-fA-F]{6}|[0-9a-fA-F]{6})", text)
+    """The colour that a text spells, as 0xAARRGGBB, or None."""
+    digits = re.fullmatch(r"#([0-9a-fA-F]{3}|[0-9a-fA-F]{6}|[0-9a-fA-F]{8})", text)
     if not digits:
-        return COLORS[text.lower()]
+        if text.lower() == "transparent":
+            return 0
+        return 0xFF000000 | COLORS[text.lower()] if text.lower() in COLORS else None
     spelled = digits[1]
-    return int("".join(2 * digit for digit in spelled) if len(spelled) == 3 else spelled[-6:], 16)
+    if len(spelled) == 3:
+        spelled = "".join(2 * digit for digit in spelled)
+    return int(spelled, 16) | (0xFF000000 if len(spelled) == 6 else 0)
 
 
 class Reader:
@@ -89,7 +93,7 @@ class Reader:
     def object(self, type_name):
         """The object whose type's name has been read."""
         self.take("{")
-        found = {"type": type_name, "set": {}, "declared": set(), "children": [], "values": []}
+        found = {"type": type_name, "id": None, "set": {}, "declared": {}, "members": []}
         while self.token != "}":
             self.member(found)
         self.step()
@@ -99,22 +103,22 @@ class Reader:
         first = self.step()
         if first == "id" and self.token == ":":
             self.step()
-            self.step()
+            found["id"] = self.step()
             self.end()
         elif first in ("property", "readonly"):
             if first == "readonly":
                 self.take("property")
-            self.step()  # its kind
-            self.declared(found, self.step())
+            kind = self.step()
+            self.declared(found, kind, self.step())
         elif self.token == ":" or self.token == ".":
             self.initialiser(found, first)
         elif first[0].isupper():
-            found["children"].append(self.object(first))
+            found["members"].append((None, self.object(first)))
         else:
             self.group(found, first)
 
-    def declared(self, found, name):
-        found["declared"].add(name)
+    def declared(self, found, kind, name):
+        found["declared"][name] = kind
         if self.token == ":":
             self.initialiser(found, name)
         else:
@@ -137,23 +141,83 @@ class Reader:
     def value(self, found, path):
         if path in found["set"]:
             raise ValueError(f"{path} is given twice")
+        before = self.place, self.kind, self.token
         if self.kind == "name" and self.token[0].isupper():
-            found["set"][path] = None
-            found["values"].append(self.object(self.step()))
-        else:
-            found["set"][path] = self.literal()
+            name = self.step()
+            if self.token == "{":
+                found["set"][path] = None
+                found["members"].append((path, self.object(name)))
+                return
+            self.place, self.kind, self.token = before
+        found["set"][path] = self.expression()
 
-    def literal(self):
-        if self.token == "(":
+    # Expressions are tuples: what they are, and their parts.
+    LEVELS = [["||"], ["&&"], ["==", "===", "!=", "!=="], ["<", "<=", ">", ">="], ["+", "-"], ["*", "/", "%"]]
+
+    def expression(self):
+        condition = self.binary(0)
+        if self.token != "?" or self.kind != "mark":
+            return condition
+        self.step()
+        first = self.expression()
+        self.take(":")
+        return "choice", condition, first, self.expression()
+
+    def binary(self, level):
+        if level == len(self.LEVELS):
+            return self.unary()
+        left = self.binary(level + 1)
+        while self.kind == "mark" and self.token in self.LEVELS[level]:
+            operator = self.step()
+            left = "binary", operator, left, self.binary(level + 1)
+        return left
+
+    def unary(self):
+        if self.kind == "mark" and self.token in ("!", "-", "+"):
+            operator = self.step()
+            return "unary", operator, self.unary()
+        found = self.primary()
+        while self.kind == "mark" and self.token in (".", "("):
+            if self.step() == ".":
+                found = "member", found, self.step()
+                continue
+            arguments = []
+            while self.token != ")":
+                arguments.append(self.expression())
+                if self.token != ")":
+                    self.take(",")
             self.step()
-            inner = self.literal()
+            found = "call", found, arguments
+        return found
+
+    def primary(self):
+        if self.kind == "mark" and self.token == "(":
+            self.step()
+            inner = self.expression()
             self.take(")")
             return inner
         if self.kind == "number":
-            return int(self.step(), 0)
+            return "value", int(self.step(), 0)
         if self.kind == "text":
-            return value_of_text(self.step())
-        return {"true": True, "false": False, "null": None, "undefined": None}[self.step()]
+            return "value", value_of_text(self.step())
+        words = {"true": True, "false": False, "null": None, "undefined": UNDEFINED}
+        name = self.step()
+        return ("value", words[name]) if name in words else ("name", name)
+
+
+UNDEFINED = object()
+
+
+class Color(int):
+    """A colour, as 0xAARRGGBB."""
+
+
+class Fault(Exception):
+    """An expression has no value."""
+
+
+class Stopped(Exception):
+    """The evaluation of this place is given up."""
 
 
 class Unit:
@@ -177,60 +241,290 @@ class Unit:
     def size(self, item):
         """How many objects an object makes, and on how many levels."""
         objects, levels = 1, 1
-        if item["type"] not in BUILT_IN:
+        if item["type"] not in SLOTS:
             if item["type"] not in self.sizes:
                 self.sizes[item["type"]] = self.size(self.of(item["type"]))
             objects, levels = self.sizes[item["type"]]
-        for child in item["children"] + item["values"]:
+        for _, child in item["members"]:
             more, deeper = self.size(child)
             objects, levels = objects + more, max(levels, deeper + 1)
         return objects, levels
 
-    def expanded(self, item, outer):
-        """An object with all that its type brings: its built-in type, its values and its children."""
-        own = item["set"] | outer
-        if item["type"] in BUILT_IN:
-            kind, values, children, declared = item["type"], own, [], set()
+
+class Context:
+    """One use of a document: its ids, and its root."""
+
+    def __init__(self):
+        self.ids, self.root = {}, None
+
+
+class Node:
+    """An object that runs: its slots, what they are bound to, and the objects that it owns."""
+
+    def __init__(self, kind, owner):
+        self.kind, self.owner, self.children = kind, owner, []
+        self.kinds = dict(SLOTS[kind], parent="object") if kind != "QtObject" else {}
+        self.bound = {}
+        self.values = {}
+        for name, slot in self.kinds.items():
+            self.start(name, slot)
+        if kind == "Rectangle":
+            self.values["color", "shown"] = Color(0xFFFFFFFF)
+
+    def start(self, name, kind):
+        first = {"int": 0, "bool": False, "string": "", "color": Color(0xFF000000), "var": UNDEFINED}.get(kind)
+        for side in ("set", "shown") if name in SIDED and self.kind != "QtObject" else ("shown",):
+            self.values[name, side] = first
+
+    def declare(self, name, kind):
+        known = {"real": "int", "double": "int", "url": "string", "variant": "var"}
+        self.kinds[name] = known.get(kind, kind)
+        self.start(name, self.kinds[name])
+
+
+SIDED = ("x", "y", "width", "height")
+SLOTS = {"QtObject": {}, "Item": dict.fromkeys(SIDED, "int")}
+SLOTS["Rectangle"] = dict(SLOTS["Item"], color="color")
+
+
+CONSTANTS = {("Qt", "LeftToRight"): 0, ("Qt", "RightToLeft"): 1}
+CONSTANTS |= {("Loader", name): number for number, name in enumerate(("Null", "Ready", "Loading", "Error"))}
+
+
+class Stage:
+    """All objects, made in order, and the settling of their slots by demand."""
+
+    def __init__(self, unit):
+        self.unit, self.nodes = unit, []
+        self.content = Node("Item", None)
+        for name, size in (("width", WIDTH), ("height", HEIGHT)):
+            self.content.values[name, "set"] = self.content.values[name, "shown"] = size
+        self.state = {}
+
+    def make(self, item, owner, context):
+        """An object of the document of that context, with all that its type brings."""
+        outer = context
+        if item["type"] in SLOTS:
+            node = Node(item["type"], owner)
+            self.nodes.append(node)
         else:
-            kind, values, children, declared = self.expanded(self.of(item["type"]), own)
-        declared = declared | item["declared"]
-        children = children + [self.expanded(child, {}) for child in item["children"]]
-        return kind, values, children, declared
+            inner = Context()
+            document = self.unit.of(item["type"])
+            node = self.make(document, owner, inner)
+        if outer.root is None:
+            outer.root = node
+        if item["id"]:
+            outer.ids[item["id"]] = node
+        for name, kind in item["declared"].items():
+            node.declare(name, kind)
+        for path, expression in item["set"].items():
+            if path not in node.kinds or path == "parent":
+                raise ValueError(f"{path} is not run")
+            node.bound[path] = expression and (expression, outer)
+        for path, member in item["members"]:
+            made = self.make(member, node, outer)
+            if path:
+                node.values[path, "shown"] = made
+                node.bound.pop(path, None)
+            else:
+                node.children.append(made)
+                if made.kind != "QtObject" and node.kind != "QtObject":
+                    made.values["parent", "shown"] = node
+        return node
+
+    def settle(self):
+        for node in self.nodes:
+            for name in node.kinds:
+                for side in ("set", "shown"):
+                    if (name, side) in node.values:
+                        self.visit(node, name, side)
+
+    def visit(self, node, name, side):
+        """The value of a place, brought up to date."""
+        place = node, name, side
+        own = "set" if (name, "set") in node.values else "shown"
+        native = side == "shown" and own == "set"
+        if node is self.content or (not native and node.bound.get(name) is None) or self.state.get(place) == "done":
+            return node.values[name, side]
+        if place in self.state:
+            self.state[place] = "stopped"
+            return node.values[name, side]
+        self.state[place] = "under way"
+        try:
+            if native:
+                value = self.read(place, node, name, "set")
+            else:
+                expression, context = node.bound[name]
+                value = taken(node.kinds[name], self.value(place, expression, node, context))
+            node.values[name, side] = value
+        except Fault:
+            pass
+        except Stopped as stopped:
+            if stopped.args[0] != place:
+                raise
+        self.state[place] = "done"
+        return node.values[name, side]
+
+    def read(self, reader, node, name, side="shown"):
+        value = self.visit(node, name, side)
+        if self.state[reader] == "stopped":
+            raise Stopped(reader)
+        return value
+
+    def named(self, reader, name, node, context):
+        if name in context.ids:
+            return context.ids[name]
+        for scope in (node, context.root):
+            if name in scope.kinds:
+                return self.read(reader, scope, name)
+        if name in ("Math", "Qt", "Loader"):
+            return name, None
+        raise Fault
+
+    def value(self, reader, expression, node, context):
+        found = self.sense(reader, expression, node, context)
+        if isinstance(found, tuple):
+            raise Fault
+        return found
+
+    def sense(self, reader, expression, node, context):
+        """A value; or a global as a pair."""
+        part = lambda inner: self.value(reader, inner, node, context)
+        match expression:
+            case "value", value:
+                return value
+            case "name", name:
+                return self.named(reader, name, node, context)
+            case "member", inner, name:
+                of = self.sense(reader, inner, node, context)
+                if isinstance(of, tuple):
+                    if of[0] == "Math" and of[1] is None and name in ("min", "max", "abs", "floor", "ceil", "round"):
+                        return "Math", name
+                    if of[1] is None and (of[0], name) in CONSTANTS:
+                        return CONSTANTS[of[0], name]
+                    raise Fault
+                if not isinstance(of, Node) or name not in of.kinds:
+                    raise Fault
+                return self.read(reader, of, name)
+            case "call", inner, arguments:
+                called = self.sense(reader, inner, node, context)
+                if not isinstance(called, tuple) or called[1] is None:
+                    raise Fault
+                if len(arguments) != (2 if called[1] in ("min", "max") else 1):
+                    raise Fault
+                return of_math(called[1], [part(argument) for argument in arguments])
+            case "unary", "!", inner:
+                return not truth(part(inner))
+            case "unary", operator, inner:
+                value = whole(part(inner))
+                return fitting(-value if operator == "-" else value)
+            case "binary", ("&&" | "||") as operator, left, right:
+                value = part(left)
+                return value if truth(value) == (operator == "||") else part(right)
+            case "binary", operator, left, right:
+                first = part(left)
+                return of_two(operator, first, part(right))
+            case "choice", condition, first, second:
+                return part(first if truth(part(condition)) else second)
 
 
 def is_number(value):
-    return isinstance(value, int) and not isinstance(value, bool)
+    return isinstance(value, int) and not isinstance(value, (bool, Color))
 
 
-def check(item):
-    """Ends the run where an item has a value that isn't drawn yet."""
-    kind, values, children, declared = item
-    for path, value in values.items():
-        if path in BUILT_IN[kind]:
-            if path == "color":
-                color_of(value)
-            elif not is_number(value):
-                raise ValueError(f"{path} is {value!r}")
-        elif path not in declared:
-            raise ValueError(f"{path} is not run")
-    for child in children:
-        check(child)
+def whole(value):
+    if not is_number(value):
+        raise Fault
+    return value
 
 
-def paint(pixels, item, left, top):
-    kind, values, children, _ = item
-    if kind == "QtObject":
+def fitting(number):
+    if not -(1 << 31) <= number < 1 << 31:
+        raise Fault
+    return number
+
+
+def truth(value):
+    if isinstance(value, Color):
+        return True
+    return bool(value) if isinstance(value, (bool, int, str)) else isinstance(value, Node)
+
+
+def text_of(value):
+    if isinstance(value, bool):
+        return "true" if value else "false"
+    if isinstance(value, Color):
+        return f"#{value & 0xFFFFFF:06x}" if value >> 24 == 255 else f"#{value:08x}"
+    if value is None or value is UNDEFINED:
+        return "null" if value is None else "undefined"
+    return "object" if isinstance(value, Node) else str(value)
+
+
+def kind_of(value):
+    return "object" if value is None or isinstance(value, Node) else type(value)
+
+
+def of_two(operator, left, right):
+    if operator in ("==", "===", "!=", "!=="):
+        same = kind_of(left) == kind_of(right) and left == right
+        return same == (operator[0] == "=")
+    if operator == "+" and (isinstance(left, str) or isinstance(right, str)):
+        joined = text_of(left) + text_of(right)
+        if len(joined.encode()) > 65_536:
+            raise Fault
+        return joined
+    a, b = whole(left), whole(right)
+    if operator in ("/", "%"):
+        if b == 0:
+            raise Fault
+        quotient = abs(a) // abs(b) * (1 if (a < 0) == (b < 0) else -1)
+        return fitting(quotient) if operator == "/" else a - b * quotient
+    if operator in ("+", "-", "*"):
+        return fitting({"+": a + b, "-": a - b, "*": a * b}[operator])
+    return {"<": a < b, "<=": a <= b, ">": a > b, ">=": a >= b}[operator]
+
+
+def of_math(name, arguments):
+    numbers = [whole(argument) for argument in arguments]
+    if name in ("min", "max"):
+        return min(numbers) if name == "min" else max(numbers)
+    return fitting(abs(numbers[0])) if name == "abs" else numbers[0]
+
+
+def taken(kind, value):
+    """A value as a slot of that kind takes it."""
+    if kind == "var":
+        return value
+    if kind == "string" and isinstance(value, (bool, int, str)):
+        return text_of(value)
+    if kind == "color" and isinstance(value, str) and color_of(value) is not None:
+        return Color(color_of(value))
+    if kind == "color" and isinstance(value, Color):
+        return value
+    if (kind == "int" and is_number(value)) or (kind == "bool" and isinstance(value, bool)):
+        return value
+    if kind not in ("int", "bool", "string", "color"):
+        if value is UNDEFINED:
+            return None
+        if value is None or isinstance(value, Node):
+            return value
+    raise Fault
+
+
+def paint(pixels, node, left, top):
+    if node.kind == "QtObject":
         return
-    left += values.get("x", 0)
-    top += values.get("y", 0)
-    if kind == "Rectangle":
-        color = color_of(values.get("color", "white")).to_bytes(3, "big")
-        right, bottom = left + values.get("width", 0), top + values.get("height", 0)
-        for row in range(top, min(bottom, HEIGHT)):
-            for column in range(left, min(right, WIDTH)):
+    shown = lambda name: node.values[name, "shown"]
+    left, top = left + shown("x"), top + shown("y")
+    if node.kind == "Rectangle":
+        alpha = shown("color") >> 24
+        color = [shown("color") >> shift & 255 for shift in (16, 8, 0)]
+        for row in range(max(top, 0), min(top + shown("height"), HEIGHT)):
+            for column in range(max(left, 0), min(left + shown("width"), WIDTH)):
                 at = 3 * (row * WIDTH + column)
-                pixels[at : at + 3] = color
-    for child in children:
+                for k in range(3):
+                    pixels[at + k] = (color[k] * alpha + pixels[at + k] * (255 - alpha) + 127) // 255
+    for child in node.children:
         paint(pixels, child, left, top)
 
 
@@ -246,9 +540,12 @@ def main():
     pixels = bytearray(b"\xff" * (3 * WIDTH * HEIGHT))
     objects, levels = unit.size(unit.main)
     if objects <= MOST_OBJECTS and levels <= MOST_LEVELS:
-        item = unit.expanded(unit.main, {})
-        check(item)
-        paint(pixels, item, 0, 0)
+        stage = Stage(unit)
+        root = stage.make(unit.main, stage.content, Context())
+        if root.kind != "QtObject":
+            root.values["parent", "shown"] = stage.content
+        stage.settle()
+        paint(pixels, root, 0, 0)
     image = b"P6\n%d %d\n255\n" % (WIDTH, HEIGHT) + bytes(pixels)
     for _ in lines:
         sys.stdout.buffer.write(image)

@@ -2,13 +2,11 @@ use crate::given::{Ending, Given, ends, is_refused, repeated};
 use std::test::Fail;
 
 /// A document and what is told of it behind its name.
-const REFUSED: [(&str, &str); 16] = [
+const REFUSED: [(&str, &str); 14] = [
     ("import QtQuick 1.0\nRectangle { }", "1:8: unsupported"),
     ("import QtQuick2.15\nRectangle { }", "1:8: unsupported"),
     ("Rectangle { x: 0.5 }", "1:16: unsupported"),
     ("Rectangle { x: 1; y: 2; x: 3 }", "1:25: duplicate name"),
-    ("Rectangle { x: -1 }", "1:13: unsupported"),
-    ("Rectangle { id: a; x: b }", "1:20: unsupported"),
     (
         "Rectangle { Rectangle { }\n Item { }\n z: 1 }",
         "3:2: unsupported",
@@ -25,12 +23,9 @@ const REFUSED: [(&str, &str); 16] = [
 ];
 
 /// A member in the second line of a Rectangle, and what is told behind that line's number.
-const MEMBERS: [(&str, &str); 51] = [
+const MEMBERS: [(&str, &str); 47] = [
     ("z: 1", "1: unsupported"),
     ("X: 1", "1: unknown property"),
-    ("x: -1", "1: unsupported"),
-    ("x: 1 + 1", "1: unsupported"),
-    ("x: a", "1: unsupported"),
     ("x: true", "4: wrong literal"),
     ("x: \"#000000\"", "4: wrong literal"),
     ("x: ('a')", "5: wrong literal"),
@@ -59,7 +54,6 @@ const MEMBERS: [(&str, &str); 51] = [
     ("property int a: \"b\"", "17: wrong literal"),
     ("property bool a: 1", "18: wrong literal"),
     ("property string a: null", "20: wrong literal"),
-    ("property int a: b", "14: unsupported"),
     ("property alias a: b", "10: unsupported"),
     ("property Foo a", "10: unknown type"),
     ("signal s", "8: unsupported"),

@@ -186,6 +186,82 @@ fn one_picture_of_two_documents(rt: HostRuntime) -> Result<(), Fail> {
     Ok(())
 }
 
+/// A main document with expressions and the document `A.qml`, which together show two red pixels.
+const RED_EXPRESSIONS: [(&str, &str); 16] = [
+    (
+        r##"Rectangle { width: 1 + 1; height: width / 2; color: "r" + "ed" }"##,
+        "",
+    ),
+    (
+        r##"Rectangle { property int a: 3; property int b: 4; width: 2; height: b - a; color: a < b ? "red" : "blue" }"##,
+        "",
+    ),
+    (
+        r##"Rectangle { width: b.width + 1; height: 1; color: "red"; Rectangle { id: b; width: 1; height: 1; color: "red" } }"##,
+        "",
+    ),
+    (
+        r##"Item { Rectangle { x: -1; y: x; width: 3; height: 2; color: "red" } }"##,
+        "",
+    ),
+    (
+        r##"Rectangle { width: parent.width / 320; height: parent.height - 479; color: "red" }"##,
+        "",
+    ),
+    (
+        r##"Rectangle { width: 2; height: 1; Rectangle { width: parent.width; height: parent.height; color: "red" } }"##,
+        "",
+    ),
+    (
+        r##"Rectangle { property int a: 1; property int b: a; property int c: a + b; width: c; height: a; color: "red" }"##,
+        "",
+    ),
+    (
+        r##"Rectangle { property int a: b + 1; property int b: a + 1; width: a + 2; height: b; color: "red" }"##,
+        "",
+    ),
+    (
+        r##"Rectangle { width: 2; height: 1; color: "red"; x: 5 / 0; y: nope; property int a: "b" + 1 }"##,
+        "",
+    ),
+    (
+        r##"Rectangle { property int a: 2147483647 + 1; width: a + 2; height: "a" == "a" ? 1 : 2; color: "red" }"##,
+        "",
+    ),
+    (
+        r##"Rectangle { width: Math.max(1, Math.abs(-2)); height: Math.min(1, 7 % 4); color: "red" }"##,
+        "",
+    ),
+    (
+        r##"Rectangle { property string s: "#f" + 0 + "0"; width: 2; height: 1; color: s }"##,
+        "",
+    ),
+    (
+        r##"Rectangle { width: 2; height: 1; color: "red"; Rectangle { width: 2; height: 1; color: "#00" + "000000" } }"##,
+        "",
+    ),
+    (
+        r##"A { id: a; width: a.level; level: 2 }"##,
+        r##"Rectangle { property int level; height: level / 2; color: "red" }"##,
+    ),
+    (
+        r##"Item { property int lines: 1; A { width: lines + 1; height: lines } }"##,
+        r##"Rectangle { property int level: 7; color: level == 7 ? "red" : "blue" }"##,
+    ),
+    (
+        r##"Item { id: a; property Item of: b; A { id: b; height: a.of.width / 2 } }"##,
+        r##"Rectangle { id: a; width: 2; color: a.parent ? "red" : "blue" }"##,
+    ),
+];
+
+#[test]
+fn one_picture_of_many_expressions(rt: HostRuntime) -> Result<(), Fail> {
+    for (main, other) in RED_EXPRESSIONS {
+        assert!(rt; is_drawn_of(rt.alloc(), main, other)?, "{main}");
+    }
+    Ok(())
+}
+
 /// An image whose first two pixels are red and blue, and all others white.
 fn is_red_and_blue(image: &[u8]) -> bool {
     image.len() == IMAGE

@@ -6,21 +6,20 @@ use Rattle.qml_ast.specs.declared.fault.LoadFault.{LoadFault}
 use Rattle.qml_ast.specs.declared.fault.LoadFault.TheVariants as load
 use Rattle.qml_parse.proofs.OneReading.{one_document, one_text_fault, fault_apart}
 use Rattle.qml_types.specs.declared.component.ComponentType.{ComponentType, out-ComponentType}
-use Rattle.rect_raster.specs.Drawing.{drawing}
 use Rattle.stage_run.specs.Documents.{HasFault, HasRunUnit, IsUnrun}
-use Rattle.stage_run.specs.Shown.{picture_of, shown_first}
+use Rattle.stage_run.specs.Shown.{picture_in, picture_of, started_first}
 use Rattle.type_loader.specs.declared.unit.Unit.{Unit as UnitOf}
 use Rattle.type_loader.specs.Units.{HasUnit}
 use Rattle.type_loader.proofs.Once.{faults_once, never_both, units_once}
-use Rattle.unit_picture.specs.declared.unrun.Unrun.{Unrun}
-use Rattle.unit_picture.specs.Unrun.{first_unrun}
+use Rattle.unit_check.specs.declared.unrun.Unrun.{Unrun}
+use Rattle.unit_check.specs.Unrun.{first_unrun}
 
 same_components : (files : Store) (main : List ℕ) (first second : UnitOf) → HasUnit files main first → HasUnit files main second → first.components ≡ second.components
 same_components files main first second a b = (units_once one_document one_text_fault fault_apart files main first second a b).1
 
 pub same_picture : (files : Store) (main : List ℕ) (first second : UnitOf) → HasRunUnit files main first → HasRunUnit files main second → picture_of first ≡ picture_of second
 unfolding picture_of
-same_picture files main first second a b = ap (λ cs. drawing 640 480 (shown_first cs)) (same_components files main first second a.has b.has)
+same_picture files main first second a b = ap (λ cs. picture_in (started_first cs)) (same_components files main first second a.has b.has)
 
 same_some : {A : Type 0} (o : Option A) (x y : A) → o ≡ Some x → o ≡ Some y → x ≡ y
 same_some o x y e f = let both : ◌≡◌ {A = Option _} (Some x) (Some y) = sym e ∙ f in cc

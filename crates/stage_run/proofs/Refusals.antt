@@ -18,8 +18,8 @@ use Rattle.type_loader.specs.Entries.{Entries, IsSound}
 use Rattle.type_loader.specs.Loads.{IsToldFault}
 use Rattle.type_loader.specs.Units.{HasUnit}
 use Rattle.type_loader.specs.declared.unit.Unit.{Unit as UnitOf}
-use Rattle.unit_picture.specs.Unrun.{first_unrun}
-use Rattle.unit_picture.specs.declared.unrun.Unrun.{Unrun}
+use Rattle.unit_check.specs.Unrun.{first_unrun}
+use Rattle.unit_check.specs.declared.unrun.Unrun.{Unrun}
 
 -- what holds of all told files
 if_told : (held : Option Store) (P : Store → Type 0) → ((files : Store) → held ≡ Some files → P files) → IfSome held P

@@ -8,8 +8,8 @@ use Rattle.qml_ast.specs.declared.fault.LoadFault.TheVariants as load
 use Rattle.qml_types.specs.declared.component.ComponentType.{ComponentType, out-ComponentType}
 use Rattle.type_loader.specs.Units.{HasUnit, HasUnitFault}
 use Rattle.type_loader.specs.declared.unit.Unit.{Unit as UnitOf}
-use Rattle.unit_picture.specs.Unrun.{first_unrun}
-use Rattle.unit_picture.specs.declared.unrun.Unrun.{Unrun}
+use Rattle.unit_check.specs.Unrun.{first_unrun}
+use Rattle.unit_check.specs.declared.unrun.Unrun.{Unrun}
 
 -- the first place that isn't run of these documents is told, in its document's file
 pub record IsUnrun (components : List ComponentType) (fault : LoadFault) : Type 0 where

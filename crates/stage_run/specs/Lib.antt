@@ -4,6 +4,7 @@ pub mod Flaws
 pub mod Moves
 pub mod Script
 pub mod Shown
+pub mod Started
 pub mod StatusLine
 pub mod Words
 pub mod Written

@@ -1,16 +1,24 @@
 -- What the window shows of a unit.
 use Rattle.std.specs.Prelude.{List, [], ◌∷◌}
 use Rattle.qml_types.specs.declared.component.ComponentType.{ComponentType}
-use Rattle.rect_raster.specs.Drawing.{Shape, drawing}
 use Rattle.rect_raster.specs.Picture.{Picture}
+use Rattle.object_tree.specs.First.{first_store}
+use Rattle.object_tree.specs.Store.{Store}
+use Rattle.painting.specs.Painting.{picture}
+use Rattle.item_paint.specs.Items.{paint_of}
+use Rattle.item_paint.specs.declared.showing.TheConstants.{CONTENT_ITEM}
 use Rattle.type_loader.specs.declared.unit.Unit.{Unit as UnitOf}
-use Rattle.unit_picture.specs.Looks.{shown}
+use Rattle.stage_run.specs.Started.{started}
 
--- what is shown of the main document, which is the first
-abbrev pub shown_first : List ComponentType → List Shape
-shown_first [] = []
-shown_first (main ∷ _) = shown main
+-- the objects with which a run starts of the main document, which is the first
+abbrev pub started_first : List ComponentType → Store
+started_first [] = first_store
+started_first (main ∷ _) = started main 640 480
 
--- the window of 640 by 480 pixels with the main document in it
+-- the window of 640 by 480 pixels with a store's items in it
+abbrev pub picture_in : Store → Picture
+picture_in store = picture (paint_of store) CONTENT_ITEM 640 480
+
+-- the window with the main document in it
 unfoldable pub picture_of : UnitOf → Picture
-picture_of unit = drawing 640 480 (shown_first unit.components)
+picture_of unit = picture_in (started_first unit.components)

@@ -9,6 +9,7 @@ mod picture;
 mod script;
 mod sources;
 pub mod stage;
+mod start;
 pub mod status;
 pub mod words;
 

@@ -1,29 +1,36 @@
 ghost use Rattle.std.specs.Prelude.{◌≡◌, ◌≤◌, length, IfOk, IfErr, IfSome};
+ghost use Rattle.std.specs.List.{All};
+ghost use Rattle.qml_types.specs.Sized.{IsSized};
 ghost use Rattle.stage_run.specs.Causes.{RefusesDocument};
 ghost use Rattle.stage_run.specs.Documents.{HasRunUnit};
 ghost use Rattle.stage_run.specs.Shown.{picture_of};
 ghost use Rattle.type_loader.specs.declared.unit.Unit.{Unit as UnitOf};
 
 use crate::sources::load_document;
+use crate::start::start;
 use crate::status::Status;
+use item_paint::picture;
 use outside::Files;
 use rect_raster::Canvas;
 use std::alloc::{AllocError, Global};
 use type_loader::Unit;
-use unit_picture::draw;
 
 /// The window's width in pixels.
-pub const WIDTH: u32 = 640;
+pub const WIDTH: u16 = 640;
 
 /// The window's height in pixels.
-pub const HEIGHT: u32 = 480;
+pub const HEIGHT: u16 = 480;
 
 /// The window with a unit's main document in it.
 fn picture_of(alloc: Global, unit: &Unit) -> Result<Canvas, AllocError>
+    requires { All IsSized unit.now.components }
     ensures { IfOk result (λ canvas. canvas ≡ picture_of unit.now) }
 {
     match unit.components.as_slice() {
-        [main, ..] => draw(alloc, main.get(), WIDTH, HEIGHT),
+        [main, ..] => {
+            let objects = start(alloc, main, WIDTH, HEIGHT)?;
+            picture(alloc, &objects, u32::from(WIDTH), u32::from(HEIGHT))
+        }
         [] => unreachable!(),
     }
 }

@@ -1,10 +1,12 @@
 ghost use Rattle.std.specs.Prelude.{◌≡◌, ◌≤◌, ◌<◌, length, IfOk, IfErr, IfSome, None, Some};
 ghost use Rattle.std.specs.FinMap.{get};
+ghost use Rattle.std.specs.List.{All};
+ghost use Rattle.qml_types.specs.Sized.{IsSized};
 ghost use Rattle.stage_run.specs.Causes.{HasScript, RefusesScript, RefusesDocument};
 ghost use Rattle.stage_run.specs.Documents.{HasRunUnit};
 ghost use Rattle.stage_run.specs.Flaws.{IsBadScriptAt, TellsUnrun, document_status, load_status};
 ghost use Rattle.stage_run.specs.Script.{IsScript};
-ghost use Rattle.unit_picture.specs.Unrun.{first_unrun};
+ghost use Rattle.unit_check.specs.Unrun.{first_unrun};
 
 use crate::script::read_script;
 use crate::status::Status;
@@ -14,7 +16,7 @@ use qml_types::ComponentType;
 use shared_value::Shared;
 use std::alloc::Global;
 use type_loader::{Cache, Unit, load};
-use unit_picture::{Unrun, first_unrun};
+use unit_check::{Unrun, first_unrun};
 
 /// The most bytes that a script may have.
 pub const SCRIPT_LIMIT: usize = 4_194_304;
@@ -56,6 +58,7 @@ pub fn load_document<F: Files>(alloc: Global, files: &mut F, name: &str) -> Resu
     requires { length name.now ≤ 65536 }
     ensures held { F.held files.new ≡ F.held files.old }
     ensures later { F.faults files.old ≤ F.faults files.new }
+    ensures sized { IfOk result (λ unit. All IsSized unit.components) }
     ensures read { IfOk result (λ unit. IfSome (F.held files.old) (λ told. HasRunUnit told name.now unit)) }
     ensures refused { IfErr result (RefusesDocument (F.held files.old) name.now (F.faults files.old) (F.faults files.new)) }
 {

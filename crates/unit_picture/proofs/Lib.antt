@@ -1,4 +1,0 @@
-pub mod Noted
-pub mod Painted
-pub mod Sizing
-pub mod Unrolled

@@ -1,4 +1,0 @@
-pub mod Given
-pub mod Limits
-pub mod Looks
-pub mod Unrun
