@@ -1,2 +1,3 @@
 mod Areas
+mod Confined
 pub mod Levels

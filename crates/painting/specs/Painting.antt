@@ -1,15 +1,15 @@
 -- What a tree of items is painted as.
-use Rattle.std.specs.Prelude.{◌≡◌, ℕ, zero, suc, ℤ, pos, ◌+ℤ◌, if◌then◌else◌, Option, Some, None, List, [], ◌++◌, map, take, drop, flat_map, slice_get}
+use Rattle.std.specs.Prelude.{◌≡◌, ℕ, zero, suc, ℤ, pos, ◌+ℤ◌, true, if◌then◌else◌, Option, Some, None, List, [], ◌++◌, map, take, drop, flat_map, slice_get}
 use Rattle.item_geometry.specs.declared.clip_rect.ClipRect.{ClipRect}
 use Rattle.item_geometry.specs.declared.parts.RectPart.{RectPart}
-use Rattle.item_geometry.specs.Clip.{common}
+use Rattle.item_geometry.specs.Clip.{common, has_point}
 use Rattle.item_geometry.specs.Rectangle.{parts_of}
 use Rattle.rect_raster.specs.Drawing as raster
 use Rattle.rect_raster.specs.Picture.{Picture}
 use Rattle.scene.specs.declared.paint.Paint.{Paint}
 use Rattle.painting.specs.declared.painted.Painted.{Painted}
 use Rattle.painting.specs.declared.viewport.Viewport.{Viewport}
-use Rattle.painting.specs.Shapes.{shapes}
+use Rattle.painting.specs.Shapes.{area_of, shapes}
 
 -- items: what each is painted as, under its serial
 abbrev pub Tree : Type 0
@@ -78,6 +78,11 @@ picture tree root width height = raster.drawing width height (shapes (paint tree
 -- that picture as a binary pixmap, Netpbm's P6
 abbrev pub frame : Tree → ℕ → ℕ → ℕ → List ℕ
 frame tree root width height = raster.frame width height (shapes (paint tree root))
+
+-- ---- what clips keep
+-- a painted rectangle has only points of the clip
+abbrev pub IsInside : ClipRect → Painted → Type 0
+IsInside clip painted = (x y : ℤ) → has_point (area_of painted) x y ≡ true → has_point clip x y ≡ true
 
 -- ---- depth
 -- the item and what is in it stand on at most so many levels

@@ -9,7 +9,7 @@ pub mod reach;
 pub mod viewport;
 
 pub use drawing::{draw, drawn};
-pub use laws::deeper_is_the_same;
+pub use laws::{clips_keep_what_is_inside, deeper_is_the_same};
 pub use painted::Painted;
 pub use reach::Reach;
 pub use viewport::Viewport;
