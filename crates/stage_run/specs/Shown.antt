@@ -1,5 +1,5 @@
 -- What the window shows of a unit.
-use Rattle.std.specs.Prelude.{List, [], ◌∷◌}
+use Rattle.std.specs.Prelude.{pos, List, [], ◌∷◌}
 use Rattle.qml_types.specs.declared.component.ComponentType.{ComponentType}
 use Rattle.rect_raster.specs.Picture.{Picture}
 use Rattle.object_tree.specs.First.{first_store}
@@ -13,7 +13,7 @@ use Rattle.stage_run.specs.Started.{started}
 -- the objects with which a run starts of the main document, which is the first
 abbrev pub started_first : List ComponentType → Store
 started_first [] = first_store
-started_first (main ∷ _) = started main 640 480
+started_first (main ∷ _) = started main (pos 640) (pos 480)
 
 -- the window of 640 by 480 pixels with a store's items in it
 abbrev pub picture_in : Store → Picture

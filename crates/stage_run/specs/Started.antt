@@ -1,5 +1,5 @@
 -- The objects with which a run starts.
-use Rattle.std.specs.Prelude.{ℕ, pos, Option, None, Some, []}
+use Rattle.std.specs.Prelude.{ℕ, ℤ, Option, None, Some, []}
 use Rattle.qml_ast.specs.declared.place.Place.{Place}
 use Rattle.qml_ast.specs.declared.place.Side.{Side}
 use Rattle.qml_ast.specs.declared.place.Side.TheVariants.{Set, Shown}
@@ -20,12 +20,12 @@ abbrev pub content_place : ℕ → Side → Place
 content_place slot side = record { serial = CONTENT_ITEM; slot = slot; side = side }
 
 -- the content item's slot is set to the number and shows it
-abbrev pub with_content : ℕ → ℕ → Store → Store
+abbrev pub with_content : ℕ → ℤ → Store → Store
 with_content slot n store =
-    kept (content_place slot Shown) (Int (pos n)) (written (content_place slot Set) (Int (pos n)) store)
+    kept (content_place slot Shown) (Int n) (written (content_place slot Set) (Int n) store)
 
 -- the content item has the window's size
-abbrev pub sized : ℕ → ℕ → Store → Store
+abbrev pub sized : ℤ → ℤ → Store → Store
 sized width height store = with_content HEIGHT height (with_content WIDTH width store)
 
 -- the objects of a component are made, unless that is refused
@@ -38,5 +38,5 @@ rooted main store = grown_unless (make_fault main CONTENT_ITEM store) main store
 
 -- The objects in a window of this size once the main document's are made in the content item and settled. Where
 -- there would be too many, or they would stand too deep, the content item is alone.
-unfoldable pub started : ComponentType → ℕ → ℕ → Store
+unfoldable pub started : ComponentType → ℤ → ℤ → Store
 started main width height = after_settle [] (rooted main (sized width height first_store))

@@ -16,10 +16,10 @@ use std::alloc::{AllocError, Global};
 use type_loader::Unit;
 
 /// The window's width in pixels.
-pub const WIDTH: u16 = 640;
+pub const WIDTH: u32 = 640;
 
 /// The window's height in pixels.
-pub const HEIGHT: u16 = 480;
+pub const HEIGHT: u32 = 480;
 
 /// The window with a unit's main document in it.
 fn picture_of(alloc: Global, unit: &Unit) -> Result<Canvas, AllocError>
@@ -28,8 +28,8 @@ fn picture_of(alloc: Global, unit: &Unit) -> Result<Canvas, AllocError>
 {
     match unit.components.as_slice() {
         [main, ..] => {
-            let objects = start(alloc, main, WIDTH, HEIGHT)?;
-            picture(alloc, &objects, u32::from(WIDTH), u32::from(HEIGHT))
+            let objects = start(alloc, main, WIDTH as i32, HEIGHT as i32)?;
+            picture(alloc, &objects, WIDTH, HEIGHT)
         }
         [] => unreachable!(),
     }

@@ -23,12 +23,11 @@ fn content_place(slot: u32, side: Side) -> Place
 }
 
 // Sets a slot of the content item to a number, which it shows.
-fn set_content(objects: &mut Objects, slot: u32, pixels: u16)
+fn set_content(objects: &mut Objects, slot: u32, pixels: i32)
     ensures { objects.new ≡ with_content slot pixels objects.old }
 {
-    let value = i32::from(pixels);
-    objects.set_own(content_place(slot, Side::Set), Value::Int(value));
-    objects.keep(content_place(slot, Side::Shown), Value::Int(value));
+    objects.set_own(content_place(slot, Side::Set), Value::Int(pixels));
+    objects.keep(content_place(slot, Side::Shown), Value::Int(pixels));
 }
 
 // Makes the objects of the main document, unless there would be too many or they would stand too deep.
@@ -57,8 +56,8 @@ fn make_root(
 pub(crate) fn start(
     alloc: Global,
     main: &Shared<ComponentType>,
-    width: u16,
-    height: u16,
+    width: i32,
+    height: i32,
 ) -> Result<Objects, AllocError>
     requires { IsSized main.now }
     ensures { IfOk result (λ objects. objects ≡ started main.now width height) }
