@@ -1,4 +1,5 @@
 pub mod Bodies
 pub mod Cuts
+pub mod Follows
 pub mod Named
 pub mod Stops

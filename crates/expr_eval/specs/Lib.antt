@@ -6,3 +6,6 @@ pub mod Senses
 pub mod Progress
 pub mod Evaluation
 pub mod Needs
+pub mod Shapes
+pub mod Trees
+pub mod Walks
