@@ -1,4 +1,5 @@
 ghost use Rattle.std.specs.Prelude.{◌≡◌, ◌==◌, ◌+◌, ◌^◌, ◌<◌, [], length, filter, option_copied, IsSome, Some, IfOk, OnOk, OnErr};
+ghost use Rattle.std.specs.Map.{keys_of};
 ghost use Rattle.std.specs.Option.{option_copied_mut, option_map};
 ghost use Rattle.std.specs.Borrow.{sem};
 ghost use Rattle.arena.specs.Arena.{thing_at, with_thing, without, with_next, next_above, first_of};
@@ -140,6 +141,14 @@ impl<T: Drop> Arena<T> {
             Some(key) => self.slots.try_remove(key),
             None => None,
         }
+    }
+
+    /// The serials that have a value, rising. The only error is that memory ran out.
+    #[tactic(auto, using(crate::proofs::Slots::keys_things))]
+    pub fn serials(&self, alloc: Global) -> Result<Vec<u64>, AllocError>
+        ensures { IfOk result (λ serials. serials.items ≡ keys_of self.now.things) }
+    {
+        self.keys.keys().copied().collect(alloc)
     }
 
     /// The value under the least serial above this one, with its serial.

@@ -3,3 +3,6 @@ pub mod Growers
 pub mod Lookups
 pub mod Ends
 pub mod Walks
+pub mod Same
+pub mod Resumed
+pub mod Listed

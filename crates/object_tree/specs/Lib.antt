@@ -4,7 +4,10 @@ pub mod Store
 pub mod Properties
 pub mod Layers
 pub mod Reading
+pub mod Places
+pub mod Changes
 pub mod Writing
+pub mod Resuming
 pub mod Making
 pub mod Growing
 pub mod Looking

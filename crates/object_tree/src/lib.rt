@@ -1,6 +1,7 @@
 //! The objects that components make, with their properties, and what names stand for among them.
 #![tactic(auto)]
 
+mod changes;
 pub mod context;
 mod declaring;
 pub mod fault;
@@ -9,8 +10,10 @@ mod looking;
 mod making;
 pub mod names;
 pub mod objects;
+mod places;
 pub mod property;
 mod reading;
+mod resuming;
 pub mod row;
 pub mod settled;
 mod taking;

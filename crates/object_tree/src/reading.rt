@@ -76,8 +76,9 @@ impl Objects {
         Some(self.as_read(&self.held(place)?.value))
     }
 
-    // A value as it is read.
-    fn as_read<'a>(&'a self, value: &'a Value) -> &'a Value
+    /// A value as it is read: a reference to an object that is no more as null, and a line of such an object as
+    /// `undefined`.
+    pub fn as_read<'a>(&'a self, value: &'a Value) -> &'a Value
         ensures { result.now ≡ value_read self.now value.now }
     {
         match value {
