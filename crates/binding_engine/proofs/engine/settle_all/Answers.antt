@@ -1,0 +1,14 @@
+use Rattle.std.proofs.Common.{◌∙◌}
+use Rattle.binding_engine.proofs.Marking.{entries_faulted}
+use Rattle.binding_engine.proofs.Written.{cells_settled}
+use Rattle.binding_engine.proofs.engine.settle_all.Goals as goal
+
+pub returns-clause-store : goal.returns-clause-store
+returns-clause-store c =
+    c.in_ok-write_all.ensures
+    ∙ cells_settled c.args.objects.now c.in_ok-places.field-0.cells c.as_slice-2.result.now (c.as_slice-2.ensures.value ∙ c.in_ok-places.ensures.places) c.in_ok-places.ensures.stands
+
+pub returns-clause-faulted : goal.returns-clause-faulted
+returns-clause-faulted c =
+    c.in_ok-faulted.ensures
+    ∙ entries_faulted c.args.objects.now c.in_ok-places.field-0.cells c.as_slice.result.now (c.as_slice.ensures.value ∙ c.in_ok-places.ensures.places) c.in_ok-places.ensures.stands

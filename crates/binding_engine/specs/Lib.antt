@@ -1,0 +1,5 @@
+pub mod Equations
+pub mod Standing
+pub mod Settling
+pub mod Entries
+pub mod Findings
