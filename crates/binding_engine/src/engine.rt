@@ -1,5 +1,6 @@
 ghost use Rattle.std.specs.Prelude.{◌≡◌, map, IfOk, OnOk, IsSortedByKey};
 ghost use Rattle.settling.specs.Loops.{shown};
+ghost use Rattle.binding_engine.specs.Holding.{EquationsHold};
 ghost use Rattle.binding_engine.specs.Findings.{changed_in, faulted_from, AreLoops};
 ghost use Rattle.qml_ast.specs.declared.place.Place.{Place};
 ghost use Rattle.object_tree.specs.Reading.{held_at};
@@ -183,6 +184,7 @@ impl Engine {
         writes: &Writes,
     ) -> Result<Settled, AllocError>
         ensures store { OnOk result (objects.new ≡ after_settle writes.now objects.old) }
+        ensures holds { OnOk result (EquationsHold objects.new) }
         ensures changed { IfOk result (λ settled. settled.changed.items ≡ changed_in (settled_store (resumed_by writes.now objects.old))) }
         ensures faulted { IfOk result (λ settled. settled.faulted.items ≡ faulted_from (resumed_by writes.now objects.old)) }
         ensures loops { IfOk result (λ settled. AreLoops (resumed_by writes.now objects.old) (map shown settled.loops.items)) }
