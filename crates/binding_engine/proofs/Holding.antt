@@ -19,7 +19,7 @@ use Rattle.expr_eval.specs.Walks.{ends_as}
 use Rattle.expr_eval.specs.declared.answer.Eval.{Eval}
 use Rattle.expr_eval.specs.declared.answer.Eval.TheVariants as said
 use Rattle.expr_eval.proofs.Follows.{answers}
-use Rattle.settling.specs.Cells.{Kept, Cell, plain, resting, fresh, under_way, stopped, active, marked, suspended, value_of, mark_of, is_plain, is_fresh, is_ended}
+use Rattle.settling.specs.Cells.{Kept, Cell, plain, resting, fresh, under_way, stopped, active, marked, suspended, value_of, mark_of, is_plain, is_suspended, is_fresh, is_ended}
 use Rattle.settling.specs.Cells.{Becomes}
 use Rattle.settling.specs.Cells as cells
 use Rattle.settling.specs.Holding.{Equation}
@@ -34,7 +34,7 @@ use Rattle.object_tree.specs.Reading.{instance_at, binding_at, info_at, held_at}
 use Rattle.object_tree.specs.Store.{Store}
 use Rattle.object_tree.specs.Writing.{kept, marked as with_marks_at, ended}
 use Rattle.binding_engine.specs.Equations.{shape_of, given, taken_in, bound_tree, shown_tree, is_native, has_owner, equation_by, equation, has_equation, tree_at, equated}
-use Rattle.binding_engine.specs.Holding.{value_in, meanings_of, taken_or_wrong, result_of, result_by, result_at, Fulfils, Unless, HoldsOf, EquationsHold}
+use Rattle.binding_engine.specs.Holding.{value_in, meanings_of, taken_or_wrong, result_of, result_by, result_at, Fulfils, Unless, HoldsOf, EquationsHold, is_newly_suspended}
 use Rattle.binding_engine.specs.Settling.{settled_from, is_stopped, marks_of, valued, with_cell, with_cells, settled_store}
 use Rattle.binding_engine.specs.Standing.{Standing, space, one_place, kept_in, is_suspended_in, first_of, first}
 use Rattle.binding_engine.proofs.Covered.{among, equation_placed, equation_equated, first_covers, first_is_ready}
@@ -242,6 +242,10 @@ results store q = by (has_owner (instance_at q.serial store)) (binding_at q stor
     by false b native = refl
 
 -- ---- the settled places
+abbrev is_resting : Cell Value EvalFault → Bool
+is_resting (resting k) = true
+is_resting _ = false
+
 module _ {V F : Type 0} where
   step_whole : {c d : Cell V F} → cells.Step c d → is_plain d ≡ false
   step_whole (cells.begins k e f) = ap is_plain f
@@ -301,14 +305,85 @@ module _ (store : Store) where
   unfolding settled_store
   held_other q h = ended_held (with_cells cell (equated store) store) q ∙ plain_left cell q (equated store) store (ap is_plain (cell_plain q h))
 
-  value_over : (q : Place) → value_in over q ≡ value_of (cell q)
+  pub value_over : (q : Place) → value_in over q ≡ value_of (cell q)
   value_over q = by (has_equation store q) refl
     where
       by : (b : Bool) → has_equation store q ≡ b → value_in over q ≡ value_of (cell q)
       by true h = ap (λ (o : Option Held). (kept_in o).value) (held_equated q h)
       by false h = ap (λ (o : Option Held). (kept_in o).value) (held_other q h) ∙ ap value_of (sym (cell_plain q h))
 
-  equation_over : (q : Place) → equation over q ≡ equation store q
+  -- the marks, and which places are suspended
+  pub mark_over : (q : Place) → (kept_in (held_at q over)).mark ≡ mark_of (cell q)
+  mark_over q = by (has_equation store q) refl
+    where
+      by : (b : Bool) → has_equation store q ≡ b → (kept_in (held_at q over)).mark ≡ mark_of (cell q)
+      by true h = ap (λ (o : Option Held). (kept_in o).mark) (held_equated q h)
+      by false h = ap (λ (o : Option Held). (kept_in o).mark) (held_other q h) ∙ ap mark_of (sym (cell_plain q h))
+
+  never_rests : {c d : Cell Value EvalFault} → Becomes c d → is_resting c ≡ false → is_resting d ≡ false
+  never_rests (cells.stays e) h = ap is_resting e ∙ h
+  never_rests (cells.goes_on m step rest) h = never_rests rest (by step)
+    where
+      by : {c : Cell Value EvalFault} → cells.Step c m → is_resting m ≡ false
+      by (cells.begins k e f) = ap is_resting f
+      by (cells.stops k e f) = ap is_resting f
+      by (cells.ends k v e f) = ap is_resting f
+      by (cells.fails k x e f) = ap is_resting f
+      by (cells.suspends k e f) = ap is_resting f
+
+  stopped_now : (c : Cell Value EvalFault) → is_resting c ≡ false → is_stopped c ≡ is_suspended c
+  stopped_now (plain k) h = refl
+  stopped_now (resting k) h = absurd cc
+  stopped_now (fresh k) h = refl
+  stopped_now (under_way k) h = refl
+  stopped_now (stopped k) h = refl
+  stopped_now (active v) h = refl
+  stopped_now (marked v f) h = refl
+  stopped_now (suspended k) h = refl
+
+  and_not : (b : Bool) → (b && not b) ≡ false
+  and_not true = refl
+  and_not false = refl
+
+  and_false : (b : Bool) → (b && false) ≡ false
+  and_false true = refl
+  and_false false = refl
+
+  and_true : (b : Bool) → (b && true) ≡ b
+  and_true true = refl
+  and_true false = refl
+
+  equated_suspended : (q : Place) (t : Tree) → equation store q ≡ Some t → is_suspended (cell q) ≡ is_newly_suspended store over q
+  equated_suspended q t is = by (is_suspended_in (held_at q store)) refl
+    where
+      now_is : is_suspended_in (held_at q over) ≡ is_stopped (cell q)
+      now_is = ap is_suspended_in (held_equated q (ap is_some is))
+
+      start : first store q ≡ first_of (Some t) (held_at q store)
+      start = ap (λ (o : Option Tree). first_of o (held_at q store)) is
+
+      by : (b : Bool) → is_suspended_in (held_at q store) ≡ b → is_suspended (cell q) ≡ is_newly_suspended store over q
+      by true e =
+          let rests : first store q ≡ resting (kept_in (held_at q store)) = rw e at start in
+          let is_still : cell q ≡ resting (kept_in (held_at q store)) = (outcome q).as_before (ap is_fresh rests) ∙ rests in
+          ap is_suspended is_still ∙ sym (ap (λ (b : Bool). is_suspended_in (held_at q over) && not b) e ∙ and_false (is_suspended_in (held_at q over)))
+      by false e =
+          let waits : first store q ≡ fresh (kept_in (held_at q store)) = rw e at start in
+          sym (stopped_now (cell q) (never_rests (later q) (ap is_resting waits)))
+          ∙ sym (ap (λ (b : Bool). is_suspended_in (held_at q over) && not b) e ∙ and_true (is_suspended_in (held_at q over)) ∙ now_is)
+
+  -- those whose evaluation was stopped are the newly suspended ones
+  pub suspended_over : (q : Place) → is_suspended (cell q) ≡ is_newly_suspended store over q
+  suspended_over q = by (equation store q) refl
+    where
+      by : (o : Option Tree) → equation store q ≡ o → is_suspended (cell q) ≡ is_newly_suspended store over q
+      by (Some t) is = equated_suspended q t is
+      by None is =
+          let has : has_equation store q ≡ false = ap is_some is in
+          ap is_suspended (cell_plain q has)
+          ∙ sym (ap (λ (o : Option Held). is_suspended_in o && not (is_suspended_in (held_at q store))) (held_other q has) ∙ and_not (is_suspended_in (held_at q store)))
+
+  pub equation_over : (q : Place) → equation over q ≡ equation store q
   unfolding settled_store
   equation_over q = same_equations over store (ended_hollow (with_cells cell (equated store) store) ∙ cells_hollow cell (equated store) store) q
 

@@ -8,3 +8,4 @@ pub mod Marking
 pub mod Slots
 pub mod Hollow
 pub mod Holding
+pub mod Chains
