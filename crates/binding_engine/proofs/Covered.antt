@@ -23,6 +23,7 @@ use Rattle.object_tree.specs.Places.{places_in_slot, places_from, places_in, pla
 use Rattle.object_tree.specs.Reading.{instance_at, property_at, held_at, binding_at, is_place}
 use Rattle.object_tree.specs.Store.{Store}
 use Rattle.binding_engine.specs.Equations.{equation, equation_by, has_equation, has_owner, is_native, is_shown, equated}
+use Rattle.binding_engine.specs.Standing as standing
 use Rattle.binding_engine.specs.Standing.{one_place, itself, is_suspended_in, first_of, first}
 use Rattle.binding_engine.specs.Entries.{Entries, at, space, entry_at, cell_in, first_entry_of, first_entry, inserted, with_first, first_entries}
 use Rattle.binding_engine.specs.declared.cells.Entry.{Entry}
@@ -289,3 +290,9 @@ ready_as store x es is first_are = rw (is, first_are) (first_ready store)
 
 pub covered_as : (store x : Store) (es : Entries) (places : List Place) → x ≡ store → es ≡ first_entries store (places_of store) → places ≡ equated store → Covers space places (x, es)
 covered_as store x es places is first_are these_are = rw (is, first_are, these_are) (first_covered store)
+
+pub first_covers : (store : Store) → Covers standing.space (equated store) (first store)
+first_covers store q h = equation_equated store q (fresh_equated (equation store q) (held_at q store) h)
+
+pub first_is_ready : (store : Store) → IsReady standing.space (first store)
+first_is_ready store q = ready_first (equation store q) (held_at q store)

@@ -5,3 +5,7 @@ pub mod Unmoved
 pub mod Covered
 pub mod Written
 pub mod Marking
+pub mod Slots
+pub mod Hollow
+pub mod Holding
+pub mod Chains

@@ -3,3 +3,4 @@ pub mod Standing
 pub mod Settling
 pub mod Entries
 pub mod Findings
+pub mod Holding

@@ -1,6 +1,7 @@
 ghost use Rattle.std.specs.Prelude.{◌≡◌, map, IfOk, OnOk, IsSortedByKey};
 ghost use Rattle.settling.specs.Loops.{shown};
-ghost use Rattle.binding_engine.specs.Findings.{changed_in, faulted_from, AreLoops};
+ghost use Rattle.binding_engine.specs.Holding.{EquationsHold, AreChainsIn, AreLoopsIn, mark_in};
+ghost use Rattle.binding_engine.specs.Findings.{changed_in, faulted_in, faulted_from, AreLoops};
 ghost use Rattle.qml_ast.specs.declared.place.Place.{Place};
 ghost use Rattle.object_tree.specs.Reading.{held_at};
 ghost use Rattle.object_tree.specs.Store.{Store};
@@ -183,9 +184,11 @@ impl Engine {
         writes: &Writes,
     ) -> Result<Settled, AllocError>
         ensures store { OnOk result (objects.new ≡ after_settle writes.now objects.old) }
+        ensures holds { OnOk result (EquationsHold objects.new) }
         ensures changed { IfOk result (λ settled. settled.changed.items ≡ changed_in (settled_store (resumed_by writes.now objects.old))) }
-        ensures faulted { IfOk result (λ settled. settled.faulted.items ≡ faulted_from (resumed_by writes.now objects.old)) }
-        ensures loops { IfOk result (λ settled. AreLoops (resumed_by writes.now objects.old) (map shown settled.loops.items)) }
+        ensures faulted { IfOk result (λ settled. settled.faulted.items ≡ faulted_in (mark_in objects.new) (resumed_by writes.now objects.old) (equated (resumed_by writes.now objects.old))) }
+        ensures loops { IfOk result (λ settled. AreLoopsIn (resumed_by writes.now objects.old) objects.new (map shown settled.loops.items)) }
+        ensures chains { IfOk result (λ settled. AreChainsIn objects.new (map shown settled.loops.items)) }
         ensures ordered { IfOk result (λ settled. IsSortedByKey (λ found. found.place) ⟦<Place as Ord>⟧.cmp settled.loops.items) }
     {
         resume_all(objects, writes.as_slice());

@@ -1,0 +1,44 @@
+use Rattle.std.proofs.Common.{◌≡◌, ◌∙◌, ap, subst, sym, List}
+use Rattle.std.specs.Prelude.{map}
+use Rattle.qml_ast.specs.declared.place.Place.{Place}
+use Rattle.settling.specs.Loops.{shown}
+use Rattle.object_tree.specs.Store.{Store}
+use Rattle.object_tree.specs.Writing.{ended}
+use Rattle.binding_engine.specs.Equations.{equated}
+use Rattle.binding_engine.specs.Findings.{faulted_in}
+use Rattle.binding_engine.specs.Holding.{EquationsHold, AreChainsIn, AreLoopsIn, mark_in}
+use Rattle.binding_engine.specs.Settling.{resumed_by, settled_store}
+use Rattle.binding_engine.proofs.Chains.{chains_over, loops_over, faults_over}
+use Rattle.binding_engine.proofs.Holding.{equations_hold}
+use Rattle.binding_engine.proofs.engine.Engine.settle.Goals as goal
+
+-- what the settled store is
+abbrev Whole : Store → Store → Type 0
+Whole after before = after ≡ ended (settled_store before)
+
+pub returns-clause-holds : goal.returns-clause-holds
+returns-clause-holds c =
+    let is : Whole c.end_settle.new.self c.resume_all.new.objects = c.end_settle.ensures ∙ ap ended c.in_ok-settled.ensures.store in
+    subst (λ (s : Store). EquationsHold s) (sym is) (equations_hold c.resume_all.new.objects)
+
+pub returns-clause-faulted : goal.returns-clause-faulted
+returns-clause-faulted c =
+    let is : Whole c.end_settle.new.self c.resume_all.new.objects = c.end_settle.ensures ∙ ap ended c.in_ok-settled.ensures.store in
+    c.in_ok-settled.ensures.faulted ∙ faults_over c.resume_all.new.objects
+    ∙ ap (λ (s : Store). faulted_in (mark_in s) c.resume_all.new.objects (equated c.resume_all.new.objects)) (sym is)
+    ∙ ap (λ (b : Store). faulted_in (mark_in c.end_settle.new.self) b (equated b)) (c.resume_all.ensures ∙ ap (λ (ws : List Place). resumed_by ws c.args.objects.now) c.as_slice.ensures)
+
+pub returns-clause-loops : goal.returns-clause-loops
+returns-clause-loops c =
+    let is : Whole c.end_settle.new.self c.resume_all.new.objects = c.end_settle.ensures ∙ ap ended c.in_ok-settled.ensures.store in
+    let found : AreLoopsIn c.resume_all.new.objects c.end_settle.new.self (map shown c.in_ok-settled.settled.loops.items) =
+    subst (λ (s : Store). AreLoopsIn c.resume_all.new.objects s (map shown c.in_ok-settled.settled.loops.items)) (sym is)
+    (loops_over c.resume_all.new.objects (map shown c.in_ok-settled.settled.loops.items) c.in_ok-settled.ensures.loops) in
+    subst (λ (b : Store). AreLoopsIn b c.end_settle.new.self (map shown c.in_ok-settled.settled.loops.items))
+    (c.resume_all.ensures ∙ ap (λ (ws : List Place). resumed_by ws c.args.objects.now) c.as_slice.ensures) found
+
+pub returns-clause-chains : goal.returns-clause-chains
+returns-clause-chains c =
+    let is : Whole c.end_settle.new.self c.resume_all.new.objects = c.end_settle.ensures ∙ ap ended c.in_ok-settled.ensures.store in
+    subst (λ (s : Store). AreChainsIn s (map shown c.in_ok-settled.settled.loops.items)) (sym is)
+    (chains_over c.resume_all.new.objects (map shown c.in_ok-settled.settled.loops.items) (c.in_ok-settled.ensures.loops).chains)

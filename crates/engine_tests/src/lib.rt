@@ -1,0 +1,9 @@
+//! Tests of settling: documents whose properties are bound to each other, and what they come to.
+#![tactic(auto)]
+
+#[cfg(test)]
+mod makes;
+#[cfg(test)]
+mod settles;
+#[cfg(test)]
+mod writes;

@@ -1,0 +1,142 @@
+//! What documents come to once they are made and settled.
+
+use crate::makes::made;
+use binding_engine::{Engine, Settled, Writes};
+use object_tree::Objects;
+use qml_ast::{DocFault, EvalFault, Place, Side, Value};
+use settling::LoopFound;
+use std::alloc::Global;
+use std::test::Fail;
+use type_table::item_slots::{HEIGHT, WIDTH, X, Y};
+
+struct Loop {
+    place: Place,
+    chain: &'static [Place],
+}
+
+/// A document, what places of it hold, and the loops and the faults that are found.
+struct Case {
+    text: &'static str,
+    numbers: &'static [(Place, i32)],
+    loops: &'static [Loop],
+    faults: &'static [(Place, EvalFault)],
+}
+
+macro_rules! set {
+    ($serial:expr, $slot:expr) => {
+        Place {
+            serial: $serial,
+            slot: $slot,
+            side: Side::Set,
+        }
+    };
+}
+
+macro_rules! shown {
+    ($serial:expr, $slot:expr) => {
+        Place {
+            serial: $serial,
+            slot: $slot,
+            side: Side::Shown,
+        }
+    };
+}
+
+macro_rules! case {
+    ($text:literal => $numbers:expr, $loops:expr, $faults:expr) => {
+        Case {
+            text: $text,
+            numbers: $numbers,
+            loops: $loops,
+            faults: $faults,
+        }
+    };
+}
+
+macro_rules! found {
+    ($place:expr, $chain:expr) => {
+        Loop {
+            place: $place,
+            chain: $chain,
+        }
+    };
+}
+
+// The document's root has the serial 2, and its first declared property is the slot 37.
+static CASES: [Case; 14] = [
+    case!("Item { width: 3 }" => &[(set!(2, WIDTH), 3), (shown!(2, WIDTH), 3), (shown!(2, HEIGHT), 0)], &[], &[]),
+    // two properties that read each other: the first one is stopped, and the other one has its value
+    case!("Item { x: y + 1; y: x + 1 }" => &[(set!(2, X), 0), (shown!(2, X), 0), (set!(2, Y), 1), (shown!(2, Y), 1)],
+        &[found!(set!(2, X), &[shown!(2, Y), set!(2, Y), shown!(2, X)])], &[]),
+    // a diamond is no loop
+    case!("Item { property int a: 1; property int b: a; property int c: a + b }" =>
+        &[(shown!(2, 37), 1), (shown!(2, 38), 1), (shown!(2, 39), 2)], &[], &[]),
+    // what is read later in the order of places
+    case!("Item { property int a: b + 1; property int b: c + 1; property int c: 3 }" =>
+        &[(shown!(2, 37), 5), (shown!(2, 38), 4), (shown!(2, 39), 3)], &[], &[]),
+    // siblings and owners
+    case!("Item { width: 7; Item { id: p; width: parent.width - 2 } Item { width: p.width + 1 } }" =>
+        &[(shown!(3, WIDTH), 5), (shown!(4, WIDTH), 6)], &[], &[]),
+    // a property that reads itself
+    case!("Item { property int a: a + 1; property int b: a + 1 }" => &[(shown!(2, 37), 0), (shown!(2, 38), 1)],
+        &[found!(shown!(2, 37), &[])], &[]),
+    // an expression that faults leaves the last value, which others read
+    case!("Item { property int a: 1 / 0; property int b: a + 1 }" => &[(shown!(2, 37), 0), (shown!(2, 38), 1)], &[],
+        &[(shown!(2, 37), EvalFault::ZeroDivisor)]),
+    // a value that the slot does not take
+    case!("Item { property int a: 1 == 1; height: a + 2 }" => &[(shown!(2, 37), 0), (shown!(2, HEIGHT), 2)], &[],
+        &[(shown!(2, 37), EvalFault::WrongKind)]),
+    case!("Item { x: foo; y: 2147483647 + 1 }" => &[(shown!(2, X), 0), (shown!(2, Y), 0)], &[],
+        &[(set!(2, X), EvalFault::UnknownName), (set!(2, Y), EvalFault::Overflow)]),
+    case!("Item { property Item o; x: o.width }" => &[(shown!(2, X), 0)], &[], &[(set!(2, X), EvalFault::NullMember)]),
+    // another property decides whether there is a loop
+    case!("Item { property bool on: false; property int a: on ? b : 1; property int b: a }" =>
+        &[(shown!(2, 38), 1), (shown!(2, 39), 1)], &[], &[]),
+    case!("Item { property bool on: true; property int a: on ? b : 1; property int b: a + 4 }" =>
+        &[(shown!(2, 38), 0), (shown!(2, 39), 4)], &[found!(shown!(2, 38), &[shown!(2, 39)])], &[]),
+    // two loops that share a place
+    case!("Item { property int a: b + 1; property int b: a + c; property int c: b }" =>
+        &[(shown!(2, 37), 0), (shown!(2, 38), 0), (shown!(2, 39), 0)],
+        &[found!(shown!(2, 37), &[shown!(2, 38)]), found!(shown!(2, 38), &[shown!(2, 39)])], &[]),
+    // a loop in a fault's shadow: the fault comes before the read that would close it
+    case!("Item { property int a: 1 / 0 + b; property int b: a }" => &[(shown!(2, 37), 0), (shown!(2, 38), 0)], &[],
+        &[(shown!(2, 37), EvalFault::ZeroDivisor)]),
+];
+
+/// Whether a place holds that number.
+pub fn holds(objects: &Objects, place: Place, number: i32) -> bool {
+    match objects.value(place) {
+        Some(Value::Int(held)) => *held == number,
+        _ => false,
+    }
+}
+
+fn are_loops(found: &[LoopFound<Place>], loops: &[Loop]) -> bool {
+    found.len() == loops.len()
+        && found.iter().zip(loops).all(|(a, b)| a.place == b.place && a.chain.as_slice() == b.chain)
+}
+
+fn is_found(settled: &Settled, case: &Case) -> bool {
+    settled.changed.is_empty()
+        && are_loops(settled.loops.as_slice(), case.loops)
+        && settled.faulted.as_slice() == case.faults
+}
+
+fn settles(alloc: Global, case: &Case) -> Result<bool, DocFault> {
+    let mut objects = made(alloc, case.text)?;
+    let settled = Engine::new().settle(alloc, &mut objects, &Writes::new(alloc))?;
+    let hold = case
+        .numbers
+        .iter()
+        .all(|(place, number)| holds(&objects, *place, *number));
+    Ok(hold && is_found(&settled, case))
+}
+
+#[test]
+fn documents_settle(rt: HostRuntime) -> Result<(), Fail> {
+    for case in &CASES {
+        let settled = settles(rt.alloc(), case)?;
+        assert!(rt; settled);
+    }
+    Ok(())
+}
