@@ -15,6 +15,7 @@ use Rattle.stage_run.specs.Flaws.{IsPrefix, StopsWriting}
 use Rattle.stage_run.specs.Moves.{commands}
 use Rattle.stage_run.specs.Shown.{picture_of}
 use Rattle.stage_run.specs.Words.{main_of, script_of}
+use Rattle.stage_run.proofs.Starting.{start_holds}
 use Rattle.stage_run.specs.Written.{image_of, copies, written}
 use Rattle.stage_run.proofs.OneAnswer.{no_fault_of}
 use Rattle.stage_run.proofs.ScriptLemmas.{script_is_good}
@@ -53,6 +54,7 @@ ended-whole (Ok a) run image count unit few took e moved wrote = (
   record {
     few = few;
     accepted = took;
+    settled = start_holds unit.components;
     moves = moved;
     bytes = subst (Appends run.frames_before run.frames_after) (copies-written image unit count e ∙ ap (written unit) (sym moved)) wrote;
   },
@@ -70,6 +72,7 @@ part_of run image count unit few took e part = (
     few = few;
     within = part.within;
     accepted = took;
+    settled = start_holds unit.components;
     moves = part.moves;
     bytes = subst (AppendsPart run.frames_before run.frames_after) (copies-written image unit part.done e ∙ ap (written unit) (sym part.moves)) part.bytes;
   },

@@ -11,6 +11,7 @@ use Rattle.stage_run.specs.declared.status.Status.TheVariants as status
 use Rattle.stage_run.specs.Documents.{HasRunUnit, HasFault, IsOfDocuments}
 use Rattle.stage_run.specs.Moves.{commands}
 use Rattle.stage_run.specs.Script.{IsScript, IsFirstBadLine}
+use Rattle.stage_run.specs.Shown.{StartHolds}
 use Rattle.stage_run.specs.Words.{main_of, script_of, AreLawful}
 use Rattle.stage_run.specs.Written.{written}
 use Rattle.type_loader.specs.declared.unit.Unit.{Unit as UnitOf}
@@ -73,10 +74,12 @@ pub record IsIdle (r : Run) : Type 0 where
   pub no_moves : r.journal ≡ []
   pub no_bytes : Keeps r.frames_before r.frames_after
 
--- every command of an accepted script was applied, and the frames are those of an accepted unit
+-- every command of an accepted script was applied, and the frames are those of an accepted unit, whose objects are
+-- settled
 pub record IsWhole (r : Run) (count : ℕ) (unit : UnitOf) : Type 0 where
   pub few : count ≤ 100000
   pub accepted : Accepts r.held r.words count unit
+  pub settled : StartHolds unit.components
   pub moves : r.journal ≡ commands count
   pub bytes : Appends r.frames_before r.frames_after (written unit r.journal)
 
@@ -85,6 +88,7 @@ pub record IsPart (r : Run) (count done : ℕ) (unit : UnitOf) : Type 0 where
   pub few : count ≤ 100000
   pub within : done ≤ count
   pub accepted : Accepts r.held r.words count unit
+  pub settled : StartHolds unit.components
   pub moves : r.journal ≡ commands done
   pub bytes : AppendsPart r.frames_before r.frames_after (written unit r.journal)
 

@@ -3,6 +3,7 @@ use Rattle.std.specs.Prelude.{pos, List, [], ◌∷◌}
 use Rattle.qml_types.specs.declared.component.ComponentType.{ComponentType}
 use Rattle.rect_raster.specs.Picture.{Picture}
 use Rattle.object_tree.specs.First.{first_store}
+use Rattle.binding_engine.specs.Holding.{EquationsHold}
 use Rattle.object_tree.specs.Store.{Store}
 use Rattle.painting.specs.Painting.{picture}
 use Rattle.item_paint.specs.Items.{paint_of}
@@ -14,6 +15,12 @@ use Rattle.stage_run.specs.Started.{started}
 abbrev pub started_first : List ComponentType → Store
 started_first [] = first_store
 started_first (main ∷ _) = started main (pos 640) (pos 480)
+
+-- each expression of the objects with which a run starts has its value over those same objects, or its fault is
+-- marked, but for those that a loop has suspended
+abbrev pub StartHolds : List ComponentType → Type 0
+StartHolds [] = Unit {0}
+StartHolds (main ∷ _) = EquationsHold (started main (pos 640) (pos 480))
 
 -- the window of 640 by 480 pixels with a store's items in it
 abbrev pub picture_in : Store → Picture
