@@ -50,15 +50,37 @@ const PLAIN: Case = Case {
     letters: "W",
 };
 
-const CASES: [Case; 22] = [
+/// Colours over white, and items that are not painted.
+static BLENDS: [Case; 4] = [
     PLAIN,
-    // half red over white, and the same twice
+    // half red over white
     Case {
         boxes: &[(2, [0, 0, 1, 1])],
         colors: &[(2, 0x80ff_0000)],
         letters: "H",
         ..PLAIN
     },
+    // an object that is a property's value isn't painted, nor is what isn't an item
+    Case {
+        text: "Item { property Item p: Rectangle { } QtObject { } Rectangle { } }",
+        boxes: &[(3, [0, 0, 2, 1]), (5, [1, 0, 1, 1])],
+        colors: &[(3, RED), (5, BLUE)],
+        size: (2, 1),
+        letters: "WB",
+        ..PLAIN
+    },
+    // other items than Rectangles show nothing by themselves
+    Case {
+        text: "Row { Column { Item { } } MouseArea { Loader { } } }",
+        boxes: &[(2, [0, 0, 2, 1]), (3, [0, 0, 2, 1]), (5, [0, 0, 2, 1])],
+        size: (2, 1),
+        letters: "WW",
+        ..PLAIN
+    },
+];
+
+/// Orders of painting.
+static ORDERS: [Case; 3] = [
     // children of negative z under their parent, and those of one z as they were made
     Case {
         text: "Rectangle { Rectangle { } Rectangle { } Rectangle { } }",
@@ -94,6 +116,10 @@ const CASES: [Case; 22] = [
         letters: "RBGW",
         ..PLAIN
     },
+];
+
+/// Clips, and what is not shown.
+static CLIPS: [Case; 5] = [
     // a clip reaches what stands in the children
     Case {
         text: "Item { Item { Rectangle { } } }",
@@ -144,6 +170,10 @@ const CASES: [Case; 22] = [
         letters: "WB",
         ..PLAIN
     },
+];
+
+/// Borders.
+static BORDERS: [Case; 7] = [
     // a border is named by its colour, or by its width
     Case {
         text: "Rectangle { border.color: \"black\" }",
@@ -211,6 +241,10 @@ const CASES: [Case; 22] = [
         letters: "HHHHHHHHH",
         ..PLAIN
     },
+];
+
+/// Sizes below 0, and places that are far.
+static ENDS: [Case; 3] = [
     // a size below 0 has no rectangles, and its children stand where it begins
     Case {
         text: "Rectangle { Rectangle { } }",
@@ -243,23 +277,6 @@ const CASES: [Case; 22] = [
         colors: &[(5, RED), (6, BLUE)],
         size: (3, 1),
         letters: "BRR",
-        ..PLAIN
-    },
-    // an object that is a property's value isn't painted, nor is what isn't an item
-    Case {
-        text: "Item { property Item p: Rectangle { } QtObject { } Rectangle { } }",
-        boxes: &[(3, [0, 0, 2, 1]), (5, [1, 0, 1, 1])],
-        colors: &[(3, RED), (5, BLUE)],
-        size: (2, 1),
-        letters: "WB",
-        ..PLAIN
-    },
-    // other items than Rectangles show nothing by themselves
-    Case {
-        text: "Row { Column { Item { } } MouseArea { Loader { } } }",
-        boxes: &[(2, [0, 0, 2, 1]), (3, [0, 0, 2, 1]), (5, [0, 0, 2, 1])],
-        size: (2, 1),
-        letters: "WW",
         ..PLAIN
     },
 ];
@@ -310,13 +327,51 @@ fn painted(alloc: Global, case: &Case) -> Result<Vec<u8>, DocFault> {
     Ok(written(alloc, &canvas)?)
 }
 
-#[test]
-fn pictures_of_items(rt: HostRuntime) -> Result<(), Fail> {
-    for case in &CASES {
-        let got = painted(rt.alloc(), case)?;
-        let want = pixmap(rt.alloc(), case.size.0, case.size.1, case.letters)?;
-        assert!(rt; got.as_slice() == want.as_slice());
+/// Whether a window shows what a case says.
+fn is_painted(alloc: Global, case: &Case) -> Result<bool, DocFault> {
+    let got = painted(alloc, case)?;
+    let want = pixmap(alloc, case.size.0, case.size.1, case.letters)?;
+    Ok(got.as_slice() == want.as_slice())
+}
+
+/// Whether windows show what all cases say.
+fn are_painted(alloc: Global, cases: &[Case]) -> Result<bool, DocFault> {
+    for case in cases {
+        let is = is_painted(alloc, case)?;
+        if !is {
+            return Ok(false);
+        }
     }
+    Ok(true)
+}
+
+#[test]
+fn colours_and_objects(rt: HostRuntime) -> Result<(), Fail> {
+    assert!(rt; are_painted(rt.alloc(), &BLENDS)?);
+    Ok(())
+}
+
+#[test]
+fn orders_of_painting(rt: HostRuntime) -> Result<(), Fail> {
+    assert!(rt; are_painted(rt.alloc(), &ORDERS)?);
+    Ok(())
+}
+
+#[test]
+fn clips_in_clips(rt: HostRuntime) -> Result<(), Fail> {
+    assert!(rt; are_painted(rt.alloc(), &CLIPS)?);
+    Ok(())
+}
+
+#[test]
+fn borders_of_rectangles(rt: HostRuntime) -> Result<(), Fail> {
+    assert!(rt; are_painted(rt.alloc(), &BORDERS)?);
+    Ok(())
+}
+
+#[test]
+fn ends_of_the_range(rt: HostRuntime) -> Result<(), Fail> {
+    assert!(rt; are_painted(rt.alloc(), &ENDS)?);
     Ok(())
 }
 

@@ -23,7 +23,9 @@ fn compiled(alloc: Global, text: &str, known: &Known) -> Result<ComponentType, D
 }
 
 /// What a text declares.
-pub fn component(alloc: Global, text: &str) -> Result<Shared<ComponentType>, DocFault> {
+pub fn component(alloc: Global, text: &str) -> Result<Shared<ComponentType>, DocFault>
+    ensures { IfOk result IsSized }
+{
     let known = Known::new(alloc);
     Ok(Shared::new(alloc, compiled(alloc, text, &known)?)?)
 }
@@ -34,7 +36,9 @@ pub fn grow(
     objects: &mut Objects,
     component: &Shared<ComponentType>,
     parent: u64,
-) -> Result<u64, DocFault> {
+) -> Result<u64, DocFault>
+    requires { IsSized component.now }
+{
     match objects.make(alloc, component, parent, None) {
         Ok(serial) => Ok(serial),
         Err(MakeFault::Full | MakeFault::Deep | MakeFault::NoMemory) => Err(DocFault::NoMemory),
