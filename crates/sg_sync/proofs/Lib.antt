@@ -1,0 +1,4 @@
+mod Members
+mod Linking
+mod Dressed
+mod Hanging

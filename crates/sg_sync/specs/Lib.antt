@@ -1,0 +1,4 @@
+pub mod Own
+pub mod Linking
+pub mod Dressing
+pub mod Swapping

@@ -1,0 +1,23 @@
+-- Nodes that are set, made and freed.
+use Rattle.std.specs.Prelude.{◌≡◌, ℕ, List, [], map as list_map, Option, Some, None, slice_get}
+use Rattle.links.specs.declared.node_key.NodeKey.{NodeKey}
+use Rattle.sg_nodes.specs.declared.node.Node.{Node}
+use Rattle.sg_nodes.specs.Forest.{Forest, IsChild, slot_of, key_of}
+use Rattle.sg_sync.specs.Own.{IsIn}
+use Rattle.sg_sync.specs.Linking.{HasSegment}
+
+-- the slot is that of one of the keys
+abbrev pub IsSlotOf : List NodeKey → ℕ → Type 0
+IsSlotOf keys slot = IsIn keys (key_of slot)
+
+-- the new keys have these nodes in place of those of the old keys, and of the nodes that some keys had a child
+-- or a parent may be gone
+pub record Swapped (f g : Forest) (old new freed : List NodeKey) (nodes : List Node) : Type 0 where
+  pub has : list_map (λ key. g.node (slot_of key)) new ≡ list_map Some nodes
+  pub apart : (i j slot : ℕ) → slice_get new i ≡ Some (key_of slot) → slice_get new j ≡ Some (key_of slot) → i ≡ j
+  pub others : (slot : ℕ) → ¬ IsSlotOf old slot → ¬ IsSlotOf new slot → g.node slot ≡ f.node slot
+  pub ended : (slot : ℕ) → IsSlotOf old slot → ¬ IsSlotOf new slot → g.node slot ≡ None
+  pub fresh : (slot : ℕ) → IsSlotOf new slot → ¬ IsSlotOf old slot → f.node slot ≡ None
+  pub fewer : (parent child : ℕ) → IsChild g parent child → IsChild f parent child
+  pub kept : (parent : ℕ) (segment : List ℕ) → ¬ IsSlotOf freed parent → HasSegment (f.children parent) segment
+      → ((slot : ℕ) → IsIn segment slot → ¬ IsSlotOf freed slot) → HasSegment (g.children parent) segment

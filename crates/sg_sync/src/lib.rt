@@ -1,0 +1,5 @@
+//! The step between the application and the drawing: the nodes of a scene's changed items are brought up to
+//! date, and those of items that are gone are freed.
+#![tactic(auto)]
+
+mod link;
