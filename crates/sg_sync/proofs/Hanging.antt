@@ -1,6 +1,7 @@
 -- A step of a loop that moves nodes to the end of a parent's children.
 use Rattle.std.proofs.Common.{◌≡◌, ◌≢◌, ℕ, ◌+◌, ◌<◌, List, [], ◌∷◌, ◌++◌, map as list_map, take, drop, length, get_or, Option, Some, None, IsSome, option_map, refl, ap, sym, ◌∙◌, subst, append_assoc}
-use Rattle.std.proofs.lemmas.List.{take-append-drop, map-append, drop_more, map_more}
+use Rattle.std.proofs.lemmas.List.{take-append-drop, map-append, drop_more, map_more, take_more, flat_map_more}
+use Rattle.std.specs.List.{flat_map}
 use Rattle.std.specs.FinMap as map
 use Rattle.std.proofs.lemmas.Option.{same_Some}
 use Rattle.scene.specs.declared.paint.Paint.{Paint}
@@ -95,3 +96,17 @@ own_read items serial paint keys kids under over rects is p k kids_are front bac
     ∙ (ap (λ xs. list_map (slot_or items) xs ++ (list_map slot_of (rect_keys keys.rects) ++ list_map (slot_or items) (drop paint.under paint.children))) (sym (front ∙ ap (take paint.under) kids_are))
     ∙ (ap (λ xs. list_map (slot_or items) under ++ (list_map slot_of xs ++ list_map (slot_or items) (drop paint.under paint.children))) (sym rects_are)
     ∙ ap (λ xs. list_map (slot_or items) under ++ (list_map slot_of rects ++ list_map (slot_or items) xs)) (sym (back ∙ ap (drop paint.under) kids_are))))
+
+-- a step of a loop over items whose nodes move
+pub flat_after : (g : ℕ → List ℕ) (xs : List ℕ) (parent i d : ℕ) → i < length xs → (f0 f h : Forest) → f ≡ record f0 { children = linked f0.children (flat_map g (take i xs)) parent }
+    → h ≡ record f { children = linked f.children (g (get_or xs i d)) parent } → h ≡ record f0 { children = linked f0.children (flat_map g (take (i + 1) xs)) parent }
+flat_after g xs parent i d lt f0 f h now e =
+    e
+    ∙ (ap (λ (k : Forest). record k { children = linked k.children (g (get_or xs i d)) parent }) now
+    ∙ (ap (λ (ch : ℕ → List ℕ). record f0 { children = ch }) (sym (linked-append f0.children (flat_map g (take i xs)) (g (get_or xs i d)) parent))
+    ∙ ap (λ slots. record f0 { children = linked f0.children slots parent }) (flat_map_more g [] (take i xs) (get_or xs i d) ∙ ap (flat_map g) (sym (take_more xs i d lt)))))
+
+-- children that change again
+pub same_but_children : (f0 f h : Forest) (children : ℕ → List ℕ) → f ≡ record f0 { children = f.children } → h ≡ record f { children = children } → h ≡ record f0 { children = h.children }
+same_but_children f0 f h children now e =
+    e ∙ (ap (λ (k : Forest). record k { children = children }) now ∙ ap (λ (ch : ℕ → List ℕ). record f0 { children = ch }) (sym (ap (λ (k : Forest). k.children) e)))

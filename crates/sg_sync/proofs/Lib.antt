@@ -2,3 +2,4 @@ mod Members
 mod Linking
 mod Dressed
 mod Hanging
+mod Parking

@@ -2,6 +2,12 @@
 use Rattle.std.specs.Prelude.{◌≡◌, ℕ, List, [], map as list_map, Option, Some, None, slice_get}
 use Rattle.links.specs.declared.node_key.NodeKey.{NodeKey}
 use Rattle.sg_nodes.specs.declared.node.Node.{Node}
+use Rattle.item_geometry.specs.declared.parts.RectPart.{RectPart}
+use Rattle.scene.specs.declared.paint.Paint.{Paint}
+use Rattle.sg_nodes.specs.declared.node.NodeKind.{NodeKind}
+use Rattle.sg_nodes.specs.declared.node.NodeBody.TheVariants.{Group as GroupBody, Rect as RectBody}
+use Rattle.sg_nodes.specs.Bodies.{kind_of}
+use Rattle.sg_standing.specs.Standing.{group_of, rect_of}
 use Rattle.sg_nodes.specs.Forest.{Forest, IsChild, slot_of, key_of}
 use Rattle.sg_sync.specs.Own.{IsIn}
 use Rattle.sg_sync.specs.Linking.{HasSegment}
@@ -9,6 +15,17 @@ use Rattle.sg_sync.specs.Linking.{HasSegment}
 -- the slot is that of one of the keys
 abbrev pub IsSlotOf : List NodeKey → ℕ → Type 0
 IsSlotOf keys slot = IsIn keys (key_of slot)
+
+-- an item's group, and one of its rectangles
+abbrev pub group_node : ℕ → Paint → Node
+group_node serial paint = record { item = serial; body = GroupBody (group_of paint) }
+
+abbrev pub rect_node : ℕ → RectPart → Node
+rect_node serial part = record { item = serial; body = RectBody (rect_of part) }
+
+-- the key is that of a node of the kind, made for the item
+abbrev pub IsOfItem : Forest → ℕ → NodeKind → NodeKey → Type 0
+IsOfItem f serial kind key = (node : Node) × ((f.node key.slot ≡ Some node) × ((node.item ≡ serial) × (kind_of node.body ≡ kind)))
 
 -- the new keys have these nodes in place of those of the old keys, and of the nodes that some keys had a child
 -- or a parent may be gone
