@@ -3,3 +3,6 @@ mod Linking
 mod Dressed
 mod Hanging
 mod Parking
+mod Swapping
+mod Freeing
+mod Setting

@@ -3,7 +3,7 @@ use Rattle.std.specs.Prelude.{◌≡◌, ◌⊎◌, ℕ, List, map as list_map, 
 use Rattle.std.specs.FinMap as map
 use Rattle.links.specs.declared.node_key.NodeKey.{NodeKey}
 use Rattle.item_geometry.specs.Rectangle.{parts_of}
-use Rattle.scene.specs.Keys.{rect_keys}
+use Rattle.scene.specs.Keys.{rect_keys, keys_of}
 use Rattle.scene.specs.Picture.{Item, Items, no_keys}
 use Rattle.sg_nodes.specs.declared.node.Node.{Node}
 use Rattle.sg_nodes.specs.declared.node.NodeBody.TheVariants.{Group as GroupBody, Rect as RectBody}
@@ -11,7 +11,7 @@ use Rattle.sg_nodes.specs.Forest.{Forest, IsChild, slot_of}
 use Rattle.sg_standing.specs.Trees.{IsTree}
 use Rattle.sg_standing.specs.Standing.{group_of, rect_of, group_slot, KeyAt, IsOwned, HasKinds}
 use Rattle.sg_sync.specs.Own.{IsIn, own_slots}
-use Rattle.sg_sync.specs.Linking.{HasSegment}
+use Rattle.sg_sync.specs.Linking.{HasSegment, Distinct}
 
 -- the item has its group and its rectangles, made for it, as its record says
 pub record IsDressed (f : Forest) (serial : ℕ) (item : Item) : Type 0 where
@@ -57,3 +57,9 @@ pub record Dressing (f : Forest) (items : Items) (root : ℕ) (todo : List ℕ) 
 -- each item is painted as before
 abbrev pub SamePaints : Items → Items → Type 0
 SamePaints old new = (serial : ℕ) → option_map (λ (item : Item). item.paint) (map.get new serial) ≡ option_map (λ (item : Item). item.paint) (map.get old serial)
+
+-- what is known of an item whose nodes are to be brought up to date
+pub record CanRenew (f : Forest) (serial : ℕ) (item : Item) : Type 0 where
+  pub distinct : Distinct (keys_of item.keys)
+  pub of_item : (i slot : ℕ) → KeyAt item i slot → (node : Node) × ((f.node slot ≡ Some node) × (node.item ≡ serial))
+  pub kinds : (item.keys ≡ no_keys) ⊎ HasKinds f item

@@ -1,5 +1,5 @@
 -- Nodes that are set, made and freed.
-use Rattle.std.specs.Prelude.{◌≡◌, ℕ, List, [], map as list_map, Option, Some, None, slice_get}
+use Rattle.std.specs.Prelude.{◌≡◌, ℕ, List, [], map as list_map, Option, Some, None}
 use Rattle.links.specs.declared.node_key.NodeKey.{NodeKey}
 use Rattle.sg_nodes.specs.declared.node.Node.{Node}
 use Rattle.item_geometry.specs.declared.parts.RectPart.{RectPart}
@@ -10,7 +10,7 @@ use Rattle.sg_nodes.specs.Bodies.{kind_of}
 use Rattle.sg_standing.specs.Standing.{group_of, rect_of}
 use Rattle.sg_nodes.specs.Forest.{Forest, IsChild, slot_of, key_of}
 use Rattle.sg_sync.specs.Own.{IsIn}
-use Rattle.sg_sync.specs.Linking.{HasSegment}
+use Rattle.sg_sync.specs.Linking.{HasSegment, Distinct}
 
 -- the slot is that of one of the keys
 abbrev pub IsSlotOf : List NodeKey → ℕ → Type 0
@@ -31,7 +31,7 @@ IsOfItem f serial kind key = (node : Node) × ((f.node key.slot ≡ Some node) �
 -- or a parent may be gone
 pub record Swapped (f g : Forest) (old new freed : List NodeKey) (nodes : List Node) : Type 0 where
   pub has : list_map (λ key. g.node (slot_of key)) new ≡ list_map Some nodes
-  pub apart : (i j slot : ℕ) → slice_get new i ≡ Some (key_of slot) → slice_get new j ≡ Some (key_of slot) → i ≡ j
+  pub apart : Distinct new
   pub others : (slot : ℕ) → ¬ IsSlotOf old slot → ¬ IsSlotOf new slot → g.node slot ≡ f.node slot
   pub ended : (slot : ℕ) → IsSlotOf old slot → ¬ IsSlotOf new slot → g.node slot ≡ None
   pub fresh : (slot : ℕ) → IsSlotOf new slot → ¬ IsSlotOf old slot → f.node slot ≡ None

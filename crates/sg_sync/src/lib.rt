@@ -4,3 +4,6 @@
 
 mod link;
 mod renew;
+pub mod synced;
+
+pub use synced::Synced;

@@ -1,4 +1,4 @@
-ghost use Rattle.std.specs.Prelude.{◌≡◌, ℕ, [], Some, IsSome, map as list_map};
+ghost use Rattle.std.specs.Prelude.{◌≡◌, ◌≤◌, ℕ, length, [], Some, IsSome, map as list_map};
 ghost use Rattle.std.specs.FinMap as map;
 ghost use Rattle.scene.specs.Keys.{rect_keys};
 ghost use Rattle.scene.specs.Picture.{Item};
@@ -30,7 +30,8 @@ pub(crate) fn group_key(scene: &Scene, serial: u64) -> NodeKey
 
 /// The keys of an item's rectangles, in order.
 pub(crate) fn rect_slice(keys: &RectKeys) -> &[NodeKey]
-    ensures { result.now ≡ rect_keys keys.now }
+    ensures keys { result.now ≡ rect_keys keys.now }
+    ensures few { length result.now ≤ 5 }
 {
     match keys {
         RectKeys::Zero => &[],

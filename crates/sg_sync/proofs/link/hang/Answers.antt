@@ -37,7 +37,7 @@ hang_keys-requires-clause-can_move c =
     can_ys (forest_of c.args.nodes.now) (forest_of c.hang_groups.new.nodes) (forest_of c.hang_groups.new.nodes) (forest_of c.hang_groups.new.nodes) c.args.parent.slot
     (list_map (slot_or c.args.scene.now.items) c.split_at.result.0.now) (list_map slot_of c.rect_slice.result.now) (list_map (slot_or c.args.scene.now.items) c.split_at.result.1.now) _
     (own_read c.args.scene.now.items c.args.serial c.in-Some.paint.now c.in-Some-keys.keys c.as_slice.result.now c.split_at.result.0.now c.split_at.result.1.now c.rect_slice.result.now
-    c.requires.is_item c.in-Some.ensures.paint (sym c.in-Some-keys.is ∙ c.keys.ensures) c.as_slice.ensures c.split_at.ensures.front c.split_at.ensures.back c.rect_slice.ensures)
+    c.requires.is_item c.in-Some.ensures.paint (sym c.in-Some-keys.is ∙ c.keys.ensures) c.as_slice.ensures c.split_at.ensures.front c.split_at.ensures.back c.rect_slice.ensures.keys)
     c.requires.can_move c.hang_groups.ensures.after
 
 pub hang_groups-requires-2-clause-can_move : goal.hang_groups-requires-2-clause-can_move
@@ -45,7 +45,7 @@ hang_groups-requires-2-clause-can_move c =
     can_zs (forest_of c.args.nodes.now) (forest_of c.hang_groups.new.nodes) (forest_of c.hang_keys.new.nodes) (forest_of c.hang_keys.new.nodes) c.args.parent.slot
     (list_map (slot_or c.args.scene.now.items) c.split_at.result.0.now) (list_map slot_of c.rect_slice.result.now) (list_map (slot_or c.args.scene.now.items) c.split_at.result.1.now) _
     (own_read c.args.scene.now.items c.args.serial c.in-Some.paint.now c.in-Some-keys.keys c.as_slice.result.now c.split_at.result.0.now c.split_at.result.1.now c.rect_slice.result.now
-    c.requires.is_item c.in-Some.ensures.paint (sym c.in-Some-keys.is ∙ c.keys.ensures) c.as_slice.ensures c.split_at.ensures.front c.split_at.ensures.back c.rect_slice.ensures)
+    c.requires.is_item c.in-Some.ensures.paint (sym c.in-Some-keys.is ∙ c.keys.ensures) c.as_slice.ensures c.split_at.ensures.front c.split_at.ensures.back c.rect_slice.ensures.keys)
     c.requires.can_move c.hang_groups.ensures.after c.hang_keys.ensures.after
 
 pub returns-clause-after : goal.returns-clause-after
@@ -53,5 +53,5 @@ returns-clause-after c =
     all_moved (forest_of c.args.nodes.now) (forest_of c.hang_groups.new.nodes) (forest_of c.hang_keys.new.nodes) (forest_of c.hang_groups-2.new.nodes) c.args.parent.slot
     (list_map (slot_or c.args.scene.now.items) c.split_at.result.0.now) (list_map slot_of c.rect_slice.result.now) (list_map (slot_or c.args.scene.now.items) c.split_at.result.1.now) _
     (own_read c.args.scene.now.items c.args.serial c.in-Some.paint.now c.in-Some-keys.keys c.as_slice.result.now c.split_at.result.0.now c.split_at.result.1.now c.rect_slice.result.now
-    c.requires.is_item c.in-Some.ensures.paint (sym c.in-Some-keys.is ∙ c.keys.ensures) c.as_slice.ensures c.split_at.ensures.front c.split_at.ensures.back c.rect_slice.ensures)
+    c.requires.is_item c.in-Some.ensures.paint (sym c.in-Some-keys.is ∙ c.keys.ensures) c.as_slice.ensures c.split_at.ensures.front c.split_at.ensures.back c.rect_slice.ensures.keys)
     c.requires.can_move c.hang_groups.ensures.after c.hang_keys.ensures.after c.hang_groups-2.ensures.after
