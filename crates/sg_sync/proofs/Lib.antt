@@ -6,3 +6,6 @@ mod Parking
 mod Swapping
 mod Freeing
 mod Setting
+mod Renewing
+mod Stepping
+mod Counting

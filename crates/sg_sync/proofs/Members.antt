@@ -79,7 +79,7 @@ in_or_not (y ∷ xs) x =
     (cases_eq y x)
 
 -- what a list is without a number
-skips : (x s : ℕ) (xs : List ℕ) → x ≡ s → without s (x ∷ xs) ≡ without s xs
+pub skips : (x s : ℕ) (xs : List ℕ) → x ≡ s → without s (x ∷ xs) ≡ without s xs
 skips x s xs e = ap (λ b. cond (not b) (x ∷ without s xs) (without s xs)) (eq-eqb x s e)
 
 keeps : (x s : ℕ) (xs : List ℕ) → x ≢ s → without s (x ∷ xs) ≡ x ∷ without s xs
@@ -183,3 +183,20 @@ segment_is_all {A} xs before segment after e d all =
     distinct_apart segment after x (distinct_right before (segment ++ after) now)
     (all x (subst (λ ys. IsIn ys x) (sym e) (in_right before (segment ++ after) x (in_right segment after x is)))) is) in
     e ∙ (ap (λ b. b ++ (segment ++ after)) none_before ∙ (ap (λ a. segment ++ a) none_after ∙ append-nil segment))
+
+-- the places of one value
+pub one_place : {A : Type 0} (xs : List A) (i j : ℕ) (x : A) → Distinct xs → slice_get xs i ≡ Some x → slice_get xs j ≡ Some x → i ≡ j
+one_place [] i j x d e g = absurd (none-some x e)
+one_place (y ∷ xs) zero zero x d e g = refl
+one_place (y ∷ xs) zero (suc j) x d e g = absurd (d.0 (j, g ∙ sym e))
+one_place (y ∷ xs) (suc i) zero x d e g = absurd (d.0 (i, e ∙ sym g))
+one_place (y ∷ xs) (suc i) (suc j) x d e g = ap suc (one_place xs i j x d.1 e g)
+
+-- functions that agree on what is in a list
+pub map_alike : {A B : Type 0} (f g : A → B) (xs : List A) → ((x : A) → IsIn xs x → f x ≡ g x) → map f xs ≡ map g xs
+map_alike f g [] same = refl
+map_alike f g (x ∷ xs) same = ap (λ y. y ∷ map f xs) (same x (in_first x xs)) ∙ ap (λ ys. g x ∷ ys) (map_alike f g xs (λ y is. same y (in_rest x xs y is)))
+
+pub map_twice : {A B C : Type 0} (f : A → B) (g : B → C) (xs : List A) → map g (map f xs) ≡ map (λ x. g (f x)) xs
+map_twice f g [] = refl
+map_twice f g (x ∷ xs) = ap (λ ys. g (f x) ∷ ys) (map_twice f g xs)

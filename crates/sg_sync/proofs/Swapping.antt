@@ -140,7 +140,7 @@ new_node g (key ∷ new) (node ∷ nodes) slot e is =
     (found.0, (in_rest node nodes found.0 found.1.0, found.1.1)))
     (first_or_rest key new (key_of slot) is)
 
-same_map : (g h : ℕ → Option Node) (keys : List NodeKey) → ((slot : ℕ) → IsSlotOf keys slot → h slot ≡ g slot) → list_map (λ key. h (slot_of key)) keys ≡ list_map (λ key. g (slot_of key)) keys
+pub same_map : (g h : ℕ → Option Node) (keys : List NodeKey) → ((slot : ℕ) → IsSlotOf keys slot → h slot ≡ g slot) → list_map (λ key. h (slot_of key)) keys ≡ list_map (λ key. g (slot_of key)) keys
 same_map g h [] same = refl
 same_map g h (key ∷ keys) same =
     ap (λ o. o ∷ list_map (λ k. h (slot_of k)) keys) (same key.slot (zero, refl))

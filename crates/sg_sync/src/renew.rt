@@ -1,4 +1,4 @@
-ghost use Rattle.std.specs.Prelude.{◌≡◌, ◌≢◌, ℕ, ◌+◌, ◌<◌, ◌≤◌, ◌^◌, [], ◌∷◌, ◌++◌, Some, IsSome, length, slice_get, map as list_map};
+ghost use Rattle.std.specs.Prelude.{◌≡◌, ◌≢◌, ℕ, ◌+◌, ◌*◌, ◌<◌, ◌≤◌, ◌^◌, [], ◌∷◌, ◌++◌, Some, IsSome, length, slice_get, map as list_map};
 ghost use Rattle.std.specs.FinMap as map;
 ghost use Rattle.links.specs.declared.node_key.NodeKey.{NodeKey as Key};
 ghost use Rattle.item_geometry.specs.Rectangle.{parts_of};
@@ -14,8 +14,8 @@ ghost use Rattle.sg_nodes.specs.Stored.{forest_of};
 ghost use Rattle.sg_standing.specs.Standing.{group_of, rect_of};
 ghost use Rattle.sg_sync.specs.Own.{IsIn};
 ghost use Rattle.sg_sync.specs.Linking.{Distinct};
-ghost use Rattle.sg_sync.specs.Dressing.{CanRenew};
-ghost use Rattle.sg_sync.specs.Counting.{made_by, freed_by, made_for, freed_for};
+ghost use Rattle.sg_sync.specs.Dressing.{CanRenew, Dressing, AreLinked, HasNoParent, SamePaints};
+ghost use Rattle.sg_sync.specs.Counting.{made_by, freed_by, made_for, freed_for, total};
 ghost use Rattle.sg_sync.specs.Swapping.{Swapped, group_node, rect_node, IsOfItem};
 
 use crate::link::rect_slice;
@@ -256,4 +256,34 @@ fn renew(nodes: &mut Nodes, scene: &mut Scene, serial: u64, done: &mut Synced) -
     };
     scene.set_keys(serial, keys);
     keys
+}
+
+/// Brings the own nodes of dirty items up to date, whatever they have as children.
+pub(crate) fn renew_all(nodes: &mut Nodes, scene: &mut Scene, serials: &[u64], done: &mut Synced)
+    requires dirty { scene.old.dirty ≡ serials.now }
+    requires distinct { Distinct serials.now }
+    requires items { (serial : ℕ) → IsIn serials.now serial → IsSome (map.get scene.old.items serial) }
+    requires dressing { Dressing (forest_of nodes.old) scene.old.items scene.old.root serials.now }
+    requires linked { AreLinked (forest_of nodes.old) scene.old.items serials.now }
+    requires no_parent { HasNoParent (forest_of nodes.old) scene.old.items scene.old.root }
+    requires room { 6 * length serials.now ≤ nodes.old.spare }
+    requires made { done.old.made + 6 * length serials.now < 2 ^ 64 }
+    requires released { done.old.released + 6 * length serials.now < 2 ^ 64 }
+    requires forest { IsForest (forest_of nodes.old) }
+    ensures dressing { Dressing (forest_of nodes.new) scene.new.items scene.new.root [] }
+    ensures linked { AreLinked (forest_of nodes.new) scene.new.items serials.now }
+    ensures no_parent { HasNoParent (forest_of nodes.new) scene.new.items scene.new.root }
+    ensures paints { SamePaints scene.old.items scene.new.items }
+    ensures others { (serial : ℕ) → ¬ IsIn serials.now serial
+        → map.get scene.new.items serial ≡ map.get scene.old.items serial }
+    ensures scene { scene.new ≡ record scene.old { items = scene.new.items; dirty = [] } }
+    ensures counted { done.new ≡ record done.old {
+      made = done.old.made + total made_for scene.old.items serials.now;
+      released = done.old.released + total freed_for scene.old.items serials.now;
+    } }
+    ensures forest { IsForest (forest_of nodes.new) }
+{
+    for serial in serials {
+        let _keys = renew(nodes, scene, *serial, done);
+    }
 }
