@@ -1,19 +1,17 @@
 -- What items want that have their nodes.
-use Rattle.std.proofs.Common.{◌≡◌, ◌≢◌, ◌⊎◌, ⊎_elim, inl, inr, ℕ, zero, suc, ◌+◌, List, [], ◌∷◌, ◌++◌, map as list_map, take, drop, Option, Some, None, IsSome, is_some, option_map, refl, ap, sym, ◌∙◌, subst, arith}
+use Rattle.std.proofs.Common.{◌≡◌, ◌≢◌, ◌⊎◌, ⊎_elim, inl, inr, ℕ, zero, suc, ◌+◌, List, [], ◌++◌, map as list_map, take, drop, Option, Some, None, IsSome, is_some, option_map, refl, ap, sym, ◌∙◌, subst, arith}
 use Rattle.std.specs.Prelude.{unwrap_or}
 use Rattle.std.specs.Option.{option_and_then}
 use Rattle.std.specs.List.{slice_get}
 use Rattle.std.specs.FinMap as map
-use Rattle.std.proofs.lemmas.Option.{none-some, same_Some}
-use Rattle.std.proofs.lemmas.Bool.{cases_eq}
+use Rattle.std.proofs.lemmas.Option.{same_Some}
 use Rattle.std.proofs.lemmas.List.{take-append-drop}
 use Rattle.links.specs.declared.node_key.NodeKey.{NodeKey}
-use Rattle.scene.specs.Keys.{rect_keys, group_keys, keys_of}
+use Rattle.scene.specs.Keys.{rect_keys, group_keys}
 use Rattle.scene.specs.Picture.{Item, Items}
 use Rattle.sg_nodes.specs.declared.node.Node.{Node}
 use Rattle.sg_nodes.specs.Forest.{Forest, IsLive, slot_of, key_of}
-use Rattle.sg_standing.specs.Trees.{IsItem, Names, IsTree}
-use Rattle.sg_standing.specs.Standing.{group_slot, KeyAt, IsOwned}
+use Rattle.sg_standing.specs.Standing.{group_slot, KeyAt}
 use Rattle.sg_sync.specs.Own.{IsIn, slot_or, own_slots}
 use Rattle.sg_sync.specs.Linking.{Distinct}
 use Rattle.sg_sync.specs.Dressing.{IsDressed, Dressing, Wants}
@@ -57,21 +55,27 @@ own_cases items item slot is =
     ⊎_elim
     (λ (under : IsIn (list_map (slot_or items) (take item.paint.under item.paint.children)) slot).
     let found = in_mapped (slot_or items) (take item.paint.under item.paint.children) slot under in
-    inl (found.0, (
-      subst (λ xs. IsIn xs found.0) (take-append-drop item.paint.under item.paint.children)
-          (in_left (take item.paint.under item.paint.children) (drop item.paint.under item.paint.children) found.0 found.1.0),
-      found.1.1,
-    )))
+    inl (
+      found.0,
+      (
+        subst (λ xs. IsIn xs found.0) (take-append-drop item.paint.under item.paint.children)
+            (in_left (take item.paint.under item.paint.children) (drop item.paint.under item.paint.children) found.0 found.1.0),
+        found.1.1,
+      ),
+    ))
     (λ (rest : IsIn (list_map slot_of (rect_keys item.keys.rects) ++ list_map (slot_or items) (drop item.paint.under item.paint.children)) slot).
     ⊎_elim
     (λ (rect : IsIn (list_map slot_of (rect_keys item.keys.rects)) slot). inr (in_mapped slot_of (rect_keys item.keys.rects) slot rect))
     (λ (over : IsIn (list_map (slot_or items) (drop item.paint.under item.paint.children)) slot).
     let found = in_mapped (slot_or items) (drop item.paint.under item.paint.children) slot over in
-    inl (found.0, (
-      subst (λ xs. IsIn xs found.0) (take-append-drop item.paint.under item.paint.children)
-          (in_right (take item.paint.under item.paint.children) (drop item.paint.under item.paint.children) found.0 found.1.0),
-      found.1.1,
-    )))
+    inl (
+      found.0,
+      (
+        subst (λ xs. IsIn xs found.0) (take-append-drop item.paint.under item.paint.children)
+            (in_right (take item.paint.under item.paint.children) (drop item.paint.under item.paint.children) found.0 found.1.0),
+        found.1.1,
+      ),
+    ))
     (in_either (list_map slot_of (rect_keys item.keys.rects)) (list_map (slot_or items) (drop item.paint.under item.paint.children)) slot rest))
     (in_either (list_map (slot_or items) (take item.paint.under item.paint.children))
     (list_map slot_of (rect_keys item.keys.rects) ++ list_map (slot_or items) (drop item.paint.under item.paint.children)) slot is)
@@ -197,10 +201,17 @@ module _ {f : Forest} {items : Items} {root : ℕ} (d : Dressing f items root []
       ⊎_elim
       (λ (group : (own.1.1.0 ≡ 0) × (has.group.slot ≡ slot)).
       let not_root : node.0.item ≢ root = λ same. other own.0 has.group (ap (λ s. map.get items s) (sym same) ∙ own.1.0) has.group_is (sym group.1) in
-      let parent = d.tree.reached node.0.item (ap is_some own.1.0) not_root in
-      (parent.0, (parent.2.0, (parent.2.1.0,
-      subst (IsIn (own_slots items parent.2.0)) (slot_or_is items node.0.item own.0 has.group own.1.0 has.group_is ∙ group.1)
-      (own_child items parent.2.0 node.0.item (parent.1, parent.2.1.1))))))
+      let parent = d.tree.reached node.0.item (ap is_some own.1.0) not_root in (
+        parent.0,
+        (
+          parent.2.0,
+          (
+            parent.2.1.0,
+            subst (IsIn (own_slots items parent.2.0)) (slot_or_is items node.0.item own.0 has.group own.1.0 has.group_is ∙ group.1)
+                (own_child items parent.2.0 node.0.item (parent.1, parent.2.1.1)),
+          ),
+        ),
+      ))
       (λ (rect : (key : NodeKey) × (IsIn (rect_keys own.0.keys.rects) key × (key.slot ≡ slot))).
       (node.0.item, (own.0, (own.1.0, subst (IsIn (own_slots items own.0)) rect.1.1 (own_rect items own.0 rect.0 rect.1.0)))))
       (key_cases own.0 has.group own.1.1.0 slot has.group_is own.1.1.1)

@@ -1,5 +1,5 @@
 -- A step of a loop that moves nodes to the end of a parent's children.
-use Rattle.std.proofs.Common.{◌≡◌, ◌≢◌, ℕ, ◌+◌, ◌<◌, List, [], ◌∷◌, ◌++◌, map as list_map, take, drop, length, get_or, Option, Some, None, IsSome, option_map, refl, ap, sym, ◌∙◌, subst, append_assoc}
+use Rattle.std.proofs.Common.{◌≡◌, ◌≢◌, ℕ, ◌+◌, ◌<◌, List, [], ◌∷◌, ◌++◌, map as list_map, take, drop, length, get_or, Option, Some, None, IsSome, option_map, ap, sym, ◌∙◌, subst, append_assoc}
 use Rattle.std.proofs.lemmas.List.{take-append-drop, map-append, drop_more, map_more, take_more, flat_map_more}
 use Rattle.std.specs.List.{flat_map}
 use Rattle.std.specs.FinMap as map

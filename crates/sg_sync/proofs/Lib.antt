@@ -9,3 +9,6 @@ mod Setting
 mod Renewing
 mod Stepping
 mod Counting
+mod Starting
+mod Finishing
+mod Gathering

@@ -1,12 +1,12 @@
 -- Nodes that move to the end of a parent's children.
-use Rattle.std.proofs.Common.{◌≡◌, ◌≢◌, ◌==◌, not, ◌⊎◌, ⊎_elim, inl, inr, ℕ, zero, suc, Bool, true, false, cond, List, [], ◌∷◌, ◌++◌, Some, None, refl, ap, sym, ◌∙◌, subst, eq-eqb, append_assoc, append-nil, arith}
+use Rattle.std.proofs.Common.{◌≡◌, ◌≢◌, ◌==◌, not, ◌⊎◌, ⊎_elim, inl, inr, ℕ, zero, suc, Bool, true, cond, List, [], ◌∷◌, ◌++◌, Some, None, refl, ap, sym, ◌∙◌, subst, eq-eqb, append_assoc, append-nil}
 use Rattle.std.specs.List.{slice_get}
 use Rattle.std.proofs.lemmas.Bool.{cases_eq, ne_eqb, both_ways}
 use Rattle.std.proofs.lemmas.List.Elements.{filter-append}
-use Rattle.sg_nodes.specs.Forest.{Forest, IsLive, IsChild, IsFrom, Steps, without, moved}
+use Rattle.sg_nodes.specs.Forest.{Forest, IsFrom, Steps, without, moved}
 use Rattle.sg_sync.specs.Own.{IsIn}
 use Rattle.sg_sync.specs.Linking.{linked, CanMove, HasSegment, Distinct}
-use Rattle.sg_sync.proofs.Members.{in_none, in_first, in_rest, first_or_rest, in_left, in_right, in_either, without_absent, in_without, in_without_other, segment_without, segment_pushed}
+use Rattle.sg_sync.proofs.Members.{in_none, in_rest, first_or_rest, in_left, in_right, in_either, without_absent, in_without, in_without_other, segment_without, segment_pushed}
 
 -- one that moves
 moved_here : (children : ℕ → List ℕ) (slot parent a : ℕ) → a ≡ parent → moved children slot parent None a ≡ without slot (children a) ++ slot ∷ []

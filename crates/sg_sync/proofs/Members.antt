@@ -1,5 +1,5 @@
 -- What is in lists.
-use Rattle.std.proofs.Common.{◌≡◌, ◌≢◌, ◌==◌, ◌⊎◌, ⊎_elim, inl, inr, ℕ, zero, suc, ◌+◌, cond, not, List, [], ◌∷◌, ◌++◌, map, Option, Some, None, option_map, refl, ap, sym, ◌∙◌, arith, eq-eqb, append_assoc, append-nil, length, subst}
+use Rattle.std.proofs.Common.{◌≡◌, ◌≢◌, ◌==◌, ◌⊎◌, ⊎_elim, inl, inr, ℕ, zero, suc, cond, not, List, [], ◌∷◌, ◌++◌, map, Some, refl, ap, sym, ◌∙◌, arith, eq-eqb, append_assoc, append-nil, subst}
 use Rattle.std.specs.List.{slice_get, flat_map}
 use Rattle.std.proofs.lemmas.Option.{none-some, same_Some}
 use Rattle.std.proofs.lemmas.Bool.{cases_eq, ne_eqb}
@@ -116,18 +116,26 @@ in_without_other (y ∷ xs) s x is other =
 
 -- a segment stays where what leaves the list isn't in it
 pub segment_without : (xs segment : List ℕ) (s : ℕ) → HasSegment xs segment → ¬ IsIn segment s → HasSegment (without s xs) segment
-segment_without xs segment s has absent =
-    (without s has.0, (without s has.1.0,
+segment_without xs segment s has absent = (
+  without s has.0,
+  (
+    without s has.1.0,
     ap (without s) has.1.1
-    ∙ (filter-append (λ x. not (x == s)) has.0 (segment ++ has.1.0)
-    ∙ ap (λ ys. without s has.0 ++ ys)
-    (filter-append (λ x. not (x == s)) segment has.1.0 ∙ ap (λ ys. ys ++ without s has.1.0) (without_absent segment s absent)))))
+        ∙ (filter-append (λ x. not (x == s)) has.0 (segment ++ has.1.0)
+        ∙ ap (λ ys. without s has.0 ++ ys)
+        (filter-append (λ x. not (x == s)) segment has.1.0 ∙ ap (λ ys. ys ++ without s has.1.0) (without_absent segment s absent))),
+  ),
+)
 
 pub segment_pushed : (xs segment : List ℕ) (s : ℕ) → HasSegment xs segment → HasSegment (xs ++ s ∷ []) segment
-segment_pushed xs segment s has =
-    (has.0, (has.1.0 ++ s ∷ [],
+segment_pushed xs segment s has = (
+  has.0,
+  (
+    has.1.0 ++ s ∷ [],
     ap (λ ys. ys ++ s ∷ []) has.1.1
-    ∙ (append_assoc has.0 (segment ++ has.1.0) (s ∷ []) ∙ ap (λ ys. has.0 ++ ys) (append_assoc segment has.1.0 (s ∷ [])))))
+        ∙ (append_assoc has.0 (segment ++ has.1.0) (s ∷ []) ∙ ap (λ ys. has.0 ++ ys) (append_assoc segment has.1.0 (s ∷ []))),
+  ),
+)
 
 -- no value stands twice
 pub distinct_by_place : {A : Type 0} (xs : List A) → ((i j : ℕ) (x : A) → slice_get xs i ≡ Some x → slice_get xs j ≡ Some x → i ≡ j) → Distinct xs

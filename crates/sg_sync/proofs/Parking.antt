@@ -1,8 +1,8 @@
 -- Nodes are moved below the root, and then below the groups of the items that want them.
-use Rattle.std.proofs.Common.{◌≡◌, ◌≢◌, ◌⊎◌, ⊎_elim, inl, inr, ℕ, zero, suc, ◌+◌, ◌≤◌, Bool, true, false, eqb, leb, List, [], ◌∷◌, ◌++◌, map as list_map, drop, Option, Some, None, IsSome, is_some, option_map, refl, ap, sym, ◌∙◌, subst, arith, eq-eqb}
+use Rattle.std.proofs.Common.{◌≡◌, ◌≢◌, ◌⊎◌, ⊎_elim, inl, inr, ℕ, zero, suc, ◌+◌, eqb, leb, List, [], ◌∷◌, ◌++◌, map as list_map, drop, Option, Some, None, IsSome, is_some, refl, ap, sym, ◌∙◌, subst, arith, eq-eqb}
 use Rattle.std.specs.List.{slice_get}
 use Rattle.std.specs.FinMap as map
-use Rattle.std.proofs.lemmas.Option.{none-some, same_Some, slice_get-map}
+use Rattle.std.proofs.lemmas.Option.{none-some, same_Some}
 use Rattle.std.proofs.lemmas.Bool.{cases_eq, ne_eqb, eqb-true, leb-true, le-leb, lt-leb}
 use Rattle.links.specs.declared.node_key.NodeKey.{NodeKey}
 use Rattle.item_geometry.specs.declared.parts.RectPart.{RectPart}
@@ -12,14 +12,14 @@ use Rattle.scene.specs.Picture.{Item, Items, no_keys}
 use Rattle.sg_nodes.specs.declared.node.Node.{Node}
 use Rattle.sg_nodes.specs.declared.node.NodeBody.{NodeBody}
 use Rattle.sg_nodes.specs.declared.node.NodeBody.TheVariants.{Group as GroupBody, Rect as RectBody}
-use Rattle.sg_nodes.specs.Forest.{Forest, IsLive, IsChild, IsForest, slot_of}
-use Rattle.sg_standing.specs.Standing.{group_slot, group_of, rect_of, KeyAt, HasKinds}
+use Rattle.sg_nodes.specs.Forest.{Forest, IsLive, IsForest, slot_of}
+use Rattle.sg_standing.specs.Standing.{group_slot, rect_of, HasKinds}
 use Rattle.sg_sync.specs.Own.{IsIn, slot_or, own_slots, slots_or_none, slots_of, all_slots}
-use Rattle.sg_sync.specs.Linking.{linked, CanMove, HasSegment, Distinct}
-use Rattle.sg_sync.specs.Dressing.{IsDressed, IsLinked, AreLinked, Wants, AreParked, Dressing}
+use Rattle.sg_sync.specs.Linking.{linked, CanMove, HasSegment}
+use Rattle.sg_sync.specs.Dressing.{AreLinked, Wants, AreParked, Dressing}
 use Rattle.sg_sync.proofs.Members.{in_none, in_left, in_right, in_or_not, first_or_rest, in_flat, in_flat_of}
 use Rattle.sg_sync.proofs.Linking.{linked_was, linked_there, linked_segment, linked_own}
-use Rattle.sg_sync.proofs.Dressed.{the_item, group_at, slot_is, slot_or_is, own_cases, dressed, child_item, child_group, wanted_live, one_wants, root_unwanted, all_wanted, own_distinct}
+use Rattle.sg_sync.proofs.Dressed.{the_item, group_at, slot_is, own_cases, dressed, child_item, child_group, wanted_live, one_wants, root_unwanted, all_wanted, own_distinct}
 
 -- where an item wants a slot
 wants_or_none : (items : Items) (serial slot : ℕ) (o : Option Item) → map.get items serial ≡ o → IsIn (slots_or_none items o) slot → Wants items serial slot
@@ -60,7 +60,7 @@ rank_of depth None = 0
 rank_of depth (Some node) = rank_in depth node.item node.body
 
 -- a rectangle's node
-rect_at_place : (f : Forest) (serial : ℕ) (keys : List NodeKey) (parts : List RectPart) (place : ℕ) (key : NodeKey)
+pub rect_at_place : (f : Forest) (serial : ℕ) (keys : List NodeKey) (parts : List RectPart) (place : ℕ) (key : NodeKey)
     → list_map (λ k. f.node (slot_of k)) keys ≡ list_map (λ part. Some (record { item = serial; body = RectBody (rect_of part) })) parts → slice_get keys place ≡ Some key
     → (part : RectPart) × (f.node key.slot ≡ Some (record { item = serial; body = RectBody (rect_of part) }))
 rect_at_place f serial [] parts place key e is = absurd (none-some key is)
@@ -145,8 +145,13 @@ module _ {f0 : Forest} {items : Items} {root : ℕ} (d : Dressing f0 items root 
           let there : IsIn (f.children has.group.slot) child =
           subst (λ xs. IsIn xs child) (sym segment.1.1)
           (in_right segment.0 (own_slots items wanted.1.0 ++ segment.1.0) child (in_left (own_slots items wanted.1.0) segment.1.0 child wanted.1.1.1)) in
-          inl (wanted.0, (wanted.1,
-          slot_is items wanted.0 wanted.1.0 has.group wanted.1.1.0 has.group_is ∙ ap Some (forest.one_parent has.group.slot parent there.0 is.0 child there.1 is.1))))
+          inl (
+            wanted.0,
+            (
+              wanted.1,
+              slot_is items wanted.0 wanted.1.0 has.group wanted.1.1.0 has.group_is ∙ ap Some (forest.one_parent has.group.slot parent there.0 is.0 child there.1 is.1),
+            ),
+          ))
           (in_or_not serials wanted.0)
 
     -- ranks

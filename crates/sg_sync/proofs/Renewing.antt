@@ -1,36 +1,26 @@
 -- The nodes of one item are brought up to date.
-use Rattle.std.proofs.Common.{◌≡◌, ◌≢◌, ◌⊎◌, ⊎_elim, inl, inr, ℕ, zero, suc, ◌+◌, ◌≤◌, length, Bool, true, false, cond, eqb, List, [], ◌∷◌, ◌++◌, map as list_map, take, drop, Option, Some, None, IsSome, is_some, option_map, refl, ap, sym, ◌∙◌, subst, arith, eq-eqb}
-use Rattle.std.specs.Prelude.{unwrap_or}
-use Rattle.std.specs.Option.{option_and_then}
+use Rattle.std.proofs.Common.{◌≡◌, ⊎_elim, ℕ, suc, ◌≤◌, length, List, [], ◌∷◌, Option, Some, None, is_some, option_map, refl, ap, sym, ◌∙◌, subst}
 use Rattle.std.specs.List.{slice_get}
-use Rattle.std.specs.Ordering.{nat_cmp, eq_by_cmp}
-use Rattle.std.specs.Cmp.{nat_cmp_total, unsigned_tied}
 use Rattle.std.specs.FinMap as map
 use Rattle.std.proofs.lemmas.Option.{none-some, same_Some}
-use Rattle.std.proofs.lemmas.Bool.{cases_eq, ne_eqb}
-use Rattle.std.proofs.lemmas.List.{take-append-drop}
 use Rattle.links.specs.declared.node_key.NodeKey.{NodeKey}
-use Rattle.item_geometry.specs.declared.parts.RectPart.{RectPart}
-use Rattle.item_geometry.specs.Rectangle.{parts_of}
 use Rattle.scene.specs.declared.keys.ItemKeys.{ItemKeys}
 use Rattle.scene.specs.declared.paint.Paint.{Paint}
 use Rattle.scene.specs.Keys.{rect_keys, group_keys, keys_of}
-use Rattle.scene.specs.Picture.{Item, Items, with_keys, changed_to, no_keys}
+use Rattle.scene.specs.Picture.{Item, Items, no_keys}
 use Rattle.sg_nodes.specs.declared.node.Node.{Node}
 use Rattle.sg_nodes.specs.declared.node.NodeKind.{NodeKind}
 use Rattle.sg_nodes.specs.declared.node.NodeKind.TheVariants.{Group as GroupKind, Rect as RectKind}
-use Rattle.sg_nodes.specs.declared.node.NodeBody.TheVariants.{Group as GroupBody, Rect as RectBody}
 use Rattle.sg_nodes.specs.Bodies.{HasKind, kind_of}
-use Rattle.sg_nodes.specs.Forest.{Forest, IsLive, IsChild, IsForest, slot_of, key_of}
+use Rattle.sg_nodes.specs.Forest.{Forest, key_of}
 use Rattle.sg_standing.specs.Trees.{IsItem, Names, IsTree}
-use Rattle.sg_standing.specs.Standing.{group_slot, group_of, rect_of, KeyAt, IsOwned, HasKinds}
-use Rattle.sg_sync.specs.Own.{IsIn, slot_or, own_slots}
-use Rattle.sg_sync.specs.Linking.{HasSegment, Distinct}
-use Rattle.sg_sync.specs.Swapping.{IsSlotOf, Swapped, group_node, rect_node, IsOfItem}
-use Rattle.sg_sync.specs.Dressing.{IsDressed, IsLinked, AreLinked, HasNoParent, Dressing, SamePaints, CanRenew}
-use Rattle.sg_sync.proofs.Members.{in_none, in_first, in_rest, first_or_rest, in_left, in_right, in_either, in_map, in_mapped, distinct_by_place, distinct_right, distinct_apart}
-use Rattle.sg_sync.proofs.Dressed.{the_item, group_at, rect_at, slot_is, slot_or_is, own_cases}
-use Rattle.sg_sync.proofs.Swapping.{slot_or_not, new_node, same_map, swapped_append, only_slot, is_slot}
+use Rattle.sg_standing.specs.Standing.{HasKinds}
+use Rattle.sg_sync.specs.Own.{IsIn}
+use Rattle.sg_sync.specs.Swapping.{IsSlotOf, Swapped, IsOfItem}
+use Rattle.sg_sync.specs.Dressing.{SamePaints, CanRenew}
+use Rattle.sg_sync.proofs.Members.{in_none, distinct_apart}
+use Rattle.sg_sync.proofs.Dressed.{the_item, group_at, rect_at}
+use Rattle.sg_sync.proofs.Swapping.{swapped_append}
 
 -- items that are painted alike are one tree where the others are
 abbrev pub paint_of : Option Item → Option Paint

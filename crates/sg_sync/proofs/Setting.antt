@@ -1,5 +1,5 @@
 -- Steps of loops that set and make nodes of rectangles.
-use Rattle.std.proofs.Common.{◌≡◌, ℕ, ◌+◌, ◌<◌, ◌≤◌, List, [], ◌∷◌, ◌++◌, map as list_map, take, drop, length, get_or, set, Option, Some, IfSome, refl, ap, sym, ◌∙◌, subst, arith, append-nil}
+use Rattle.std.proofs.Common.{◌≡◌, ℕ, ◌+◌, ◌<◌, List, [], ◌∷◌, ◌++◌, map as list_map, take, length, get_or, set, Option, Some, IfSome, refl, ap, sym, ◌∙◌, subst, arith, append-nil}
 use Rattle.std.proofs.lemmas.Option.{slice_get-get_or}
 use Rattle.std.proofs.lemmas.List.{take_more, take_more_set, map_more}
 use Rattle.links.specs.declared.node_key.NodeKey.{NodeKey}

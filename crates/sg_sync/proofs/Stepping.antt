@@ -1,35 +1,30 @@
 -- One more item has its nodes brought up to date.
-use Rattle.std.proofs.Common.{◌≡◌, ◌≢◌, ◌⊎◌, ⊎_elim, inl, inr, ℕ, zero, suc, ◌+◌, Bool, cond, eqb, List, [], ◌∷◌, ◌++◌, map as list_map, take, drop, Option, Some, None, IsSome, is_some, option_map, refl, ap, sym, ◌∙◌, subst, arith, eq-eqb}
+use Rattle.std.proofs.Common.{◌≡◌, ◌≢◌, ◌⊎◌, ⊎_elim, inl, inr, ℕ, suc, cond, eqb, List, ◌∷◌, ◌++◌, map as list_map, take, drop, Option, Some, None, IsSome, option_map, refl, ap, sym, ◌∙◌, subst, arith, eq-eqb}
 use Rattle.std.specs.Prelude.{unwrap_or}
 use Rattle.std.specs.Option.{option_and_then}
 use Rattle.std.specs.List.{slice_get}
-use Rattle.std.specs.Ordering.{nat_cmp, eq_by_cmp}
 use Rattle.std.specs.Cmp.{nat_cmp_total, unsigned_tied}
 use Rattle.std.specs.FinMap as map
 use Rattle.std.proofs.lemmas.Option.{none-some, same_Some}
 use Rattle.std.proofs.lemmas.Bool.{cases_eq, ne_eqb}
 use Rattle.std.proofs.lemmas.List.{take-append-drop}
 use Rattle.links.specs.declared.node_key.NodeKey.{NodeKey}
-use Rattle.item_geometry.specs.declared.parts.RectPart.{RectPart}
 use Rattle.item_geometry.specs.Rectangle.{parts_of}
 use Rattle.scene.specs.declared.keys.ItemKeys.{ItemKeys}
 use Rattle.scene.specs.declared.paint.Paint.{Paint}
 use Rattle.scene.specs.Keys.{rect_keys, group_keys, keys_of}
 use Rattle.scene.specs.Picture.{Item, Items, with_keys, changed_to, no_keys}
 use Rattle.sg_nodes.specs.declared.node.Node.{Node}
-use Rattle.sg_nodes.specs.declared.node.NodeKind.TheVariants.{Group as GroupKind, Rect as RectKind}
-use Rattle.sg_nodes.specs.Bodies.{HasKind}
-use Rattle.sg_nodes.specs.Forest.{Forest, IsChild, IsForest, slot_of, key_of}
-use Rattle.sg_standing.specs.Trees.{IsItem}
+use Rattle.sg_nodes.specs.Forest.{Forest, IsForest, slot_of, key_of}
 use Rattle.sg_standing.specs.Standing.{group_slot, KeyAt, IsOwned, HasKinds}
 use Rattle.sg_sync.specs.Own.{IsIn, slot_or, own_slots}
-use Rattle.sg_sync.specs.Linking.{HasSegment, Distinct}
+use Rattle.sg_sync.specs.Linking.{HasSegment}
 use Rattle.sg_sync.specs.Swapping.{IsSlotOf, Swapped, group_node, rect_node}
-use Rattle.sg_sync.specs.Dressing.{IsDressed, IsLinked, AreLinked, HasNoParent, Dressing, SamePaints, CanRenew}
-use Rattle.sg_sync.proofs.Members.{in_none, in_first, in_rest, first_or_rest, in_left, in_right, in_either, in_map, in_mapped, distinct_by_place, one_place, map_alike, map_twice}
-use Rattle.sg_sync.proofs.Dressed.{the_item, group_at, rect_at, slot_is, slot_or_is, own_cases}
+use Rattle.sg_sync.specs.Dressing.{IsDressed, AreLinked, HasNoParent, Dressing, SamePaints, CanRenew}
+use Rattle.sg_sync.proofs.Members.{in_first, in_rest, first_or_rest, in_left, in_right, in_mapped, distinct_by_place, one_place, map_alike, map_twice}
+use Rattle.sg_sync.proofs.Dressed.{group_at, rect_at, slot_is, own_cases}
 use Rattle.sg_sync.proofs.Swapping.{slot_or_not, new_node, same_map}
-use Rattle.sg_sync.proofs.Renewing.{paint_of, same_tree, no_group, no_slot, no_rect}
+use Rattle.sg_sync.proofs.Renewing.{paint_of, same_tree, no_slot, no_rect}
 
 -- the items where one has other keys
 module _ (items : Items) (s : ℕ) (item : Item) (keys : ItemKeys) (at : map.get items s ≡ Some item) where
@@ -87,11 +82,16 @@ group_key_is : (group : Option NodeKey) (slot : ℕ) → option_map slot_of grou
 group_key_is None slot is = absurd (none-some slot is)
 group_key_is (Some key) slot is = (key, (refl, same_Some key.slot slot is))
 
-the_group : (o : Option Item) (slot : ℕ) → option_map slot_of (option_and_then (λ (i : Item). i.keys.group) o) ≡ Some slot → (item : Item) × ((o ≡ Some item) × KeyAt item 0 slot)
+pub the_key_of : (o : Option Item) (slot : ℕ) → option_map slot_of (option_and_then (λ (i : Item). i.keys.group) o) ≡ Some slot
+    → (item : Item) × ((o ≡ Some item) × ((key : NodeKey) × ((item.keys.group ≡ Some key) × (key.slot ≡ slot))))
+the_key_of None slot is = absurd (none-some slot is)
+the_key_of (Some item) slot is = (item, (refl, group_key_is item.keys.group slot is))
+
+pub the_group : (o : Option Item) (slot : ℕ) → option_map slot_of (option_and_then (λ (i : Item). i.keys.group) o) ≡ Some slot → (item : Item) × ((o ≡ Some item) × KeyAt item 0 slot)
 the_group None slot is = absurd (none-some slot is)
 the_group (Some item) slot is = let key = group_key_is item.keys.group slot is in (item, (refl, subst (KeyAt item 0) key.1.1 (group_at item key.0 key.1.0)))
 
-some_or : (o : Option ℕ) → IsSome o → o ≡ Some (unwrap_or o 0)
+pub some_or : (o : Option ℕ) → IsSome o → o ≡ Some (unwrap_or o 0)
 some_or None is = cc
 some_or (Some x) is = refl
 

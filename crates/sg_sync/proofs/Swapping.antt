@@ -1,16 +1,16 @@
 -- Nodes that are set, made and freed, one after the other.
-use Rattle.std.proofs.Common.{◌≡◌, ◌≢◌, ◌⊎◌, ⊎_elim, inl, inr, ℕ, zero, suc, ◌+◌, Bool, true, false, cond, eqb, List, [], ◌∷◌, ◌++◌, map as list_map, drop, Option, Some, None, IsSome, is_some, refl, ap, sym, ◌∙◌, subst, arith, eq-eqb, append-nil}
+use Rattle.std.proofs.Common.{◌≡◌, ◌≢◌, ◌⊎◌, ⊎_elim, inl, inr, ℕ, zero, cond, List, [], ◌∷◌, ◌++◌, map as list_map, drop, Option, Some, None, refl, ap, sym, ◌∙◌, subst, eq-eqb}
 use Rattle.std.specs.List.{slice_get}
 use Rattle.std.proofs.lemmas.Option.{none-some, same_Some}
 use Rattle.std.proofs.lemmas.Bool.{cases_eq, ne_eqb}
 use Rattle.std.proofs.lemmas.List.{map-append}
 use Rattle.links.specs.declared.node_key.NodeKey.{NodeKey}
 use Rattle.sg_nodes.specs.declared.node.Node.{Node}
-use Rattle.sg_nodes.specs.Forest.{Forest, IsChild, put, without, freed, slot_of, key_of}
+use Rattle.sg_nodes.specs.Forest.{Forest, put, without, freed, slot_of, key_of}
 use Rattle.sg_sync.specs.Own.{IsIn}
-use Rattle.sg_sync.specs.Linking.{HasSegment, Distinct}
+use Rattle.sg_sync.specs.Linking.{HasSegment}
 use Rattle.sg_sync.specs.Swapping.{IsSlotOf, Swapped}
-use Rattle.sg_sync.proofs.Members.{in_none, in_first, in_rest, first_or_rest, in_left, in_right, in_either, in_without, segment_without, distinct_by_place, distinct-append}
+use Rattle.sg_sync.proofs.Members.{in_none, in_first, in_rest, first_or_rest, in_left, in_right, in_either, in_without, segment_without, distinct-append}
 
 pub put_at : {A : Type 0} (f : ℕ → A) (slot x : ℕ) (v : A) → x ≡ slot → put f slot v x ≡ v
 put_at f slot x v e = ap (λ b. cond b v (f x)) (eq-eqb x slot e)

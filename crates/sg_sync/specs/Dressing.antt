@@ -1,5 +1,5 @@
 -- Items that have their nodes, whatever the nodes have as children.
-use Rattle.std.specs.Prelude.{◌≡◌, ◌⊎◌, ℕ, List, map as list_map, Option, Some, IsSome, option_map, slice_get}
+use Rattle.std.specs.Prelude.{◌≡◌, ◌⊎◌, ℕ, List, map as list_map, Some, IsSome, option_map}
 use Rattle.std.specs.FinMap as map
 use Rattle.links.specs.declared.node_key.NodeKey.{NodeKey}
 use Rattle.item_geometry.specs.Rectangle.{parts_of}

@@ -1,5 +1,5 @@
 -- Nodes that are set, made and freed.
-use Rattle.std.specs.Prelude.{◌≡◌, ℕ, List, [], map as list_map, Option, Some, None}
+use Rattle.std.specs.Prelude.{◌≡◌, ℕ, List, map as list_map, Some, None}
 use Rattle.links.specs.declared.node_key.NodeKey.{NodeKey}
 use Rattle.sg_nodes.specs.declared.node.Node.{Node}
 use Rattle.item_geometry.specs.declared.parts.RectPart.{RectPart}

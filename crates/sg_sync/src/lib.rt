@@ -2,8 +2,11 @@
 //! date, and those of items that are gone are freed.
 #![tactic(auto)]
 
+mod dirty;
 mod link;
 mod renew;
 pub mod synced;
+pub mod syncing;
 
 pub use synced::Synced;
+pub use syncing::sync;

@@ -224,7 +224,7 @@ fn renew(nodes: &mut Nodes, scene: &mut Scene, serial: u64, done: &mut Synced) -
     requires forest { IsForest (forest_of nodes.old) }
     ensures swapped { (item : Item) → map.get scene.old.items serial ≡ Some item
         → Swapped (forest_of nodes.old) (forest_of nodes.new) (keys_of item.keys) (keys_of result) (rect_keys item.keys.rects)
-            (group_node serial item.paint ∷ list_map (rect_node serial) (parts_of item.paint.rects)) }
+        (group_node serial item.paint ∷ list_map (rect_node serial) (parts_of item.paint.rects)) }
     ensures kept { (item : Item) (key : Key) → map.get scene.old.items serial ≡ Some item
         → item.keys.group ≡ Some key → result.group ≡ Some key }
     ensures group { IsSome result.group }

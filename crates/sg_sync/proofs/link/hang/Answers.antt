@@ -1,4 +1,4 @@
-use Rattle.std.proofs.Common.{◌≡◌, ℕ, List, map as list_map, take, drop, Some, refl, ap, sym, ◌∙◌, subst}
+use Rattle.std.proofs.Common.{map as list_map, take, drop, refl, ap, sym, ◌∙◌, subst}
 use Rattle.std.proofs.lemmas.List.{take-append-drop}
 use Rattle.scene.specs.Keys.{rect_keys}
 use Rattle.sg_sync.specs.Linking.{CanMove}

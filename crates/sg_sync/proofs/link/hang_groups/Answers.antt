@@ -1,4 +1,4 @@
-use Rattle.std.proofs.Common.{◌≡◌, ◌<◌, ℕ, length, refl, Some, Option, sym, ap, arith, get_or}
+use Rattle.std.proofs.Common.{sym, ap, arith}
 use Rattle.std.specs.Prelude.{unwrap_or}
 use Rattle.std.proofs.lemmas.Option.{slice_get-get_or}
 use Rattle.sg_nodes.specs.Stored.{forest_of}
@@ -33,6 +33,6 @@ insert_before-requires-clause-not_above c =
 pub loop-serial-preserved : goal.loop-serial-preserved
 loop-serial-preserved c = (
   step_after (slot_or c.args.scene.now.items) c.args.serials.now c.args.parent.slot c.loop-serial.serial-index 0 (omega arith) (forest_of c.args.nodes.now) (forest_of c.loop-serial.nodes)
-  c.requires.can_move c.loop-serial.invariant.0 _ (ap (λ o. unwrap_or o 0) (sym c.group_key.ensures)) (forest_of c.insert_before.new.self) c.insert_before.ensures.after,
+      c.requires.can_move c.loop-serial.invariant.0 _ (ap (λ o. unwrap_or o 0) (sym c.group_key.ensures)) (forest_of c.insert_before.new.self) c.insert_before.ensures.after,
   c.insert_before.ensures.forest,
 )

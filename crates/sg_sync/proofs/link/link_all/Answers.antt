@@ -1,11 +1,7 @@
-use Rattle.std.proofs.Common.{◌≡◌, ◌<◌, ℕ, ◌+◌, List, ◌∷◌, drop, length, get_or, refl, Some, is_some, ap, sym, ◌∙◌, subst, arith}
-use Rattle.std.specs.FinMap as map
+use Rattle.std.proofs.Common.{◌+◌, drop, is_some, ap, sym, subst, arith}
 use Rattle.std.proofs.lemmas.Option.{slice_get-get_or}
 use Rattle.std.proofs.lemmas.List.{drop_more}
-use Rattle.sg_nodes.specs.Forest.{Forest}
 use Rattle.sg_nodes.specs.Stored.{forest_of}
-use Rattle.sg_standing.specs.Standing.{group_slot}
-use Rattle.sg_sync.specs.Own.{slots_of}
 use Rattle.sg_sync.specs.Dressing.{AreLinked}
 use Rattle.sg_sync.proofs.Dressed.{the_item, dressed, slot_is, child_group}
 use Rattle.sg_sync.proofs.Hanging.{same_but_children}

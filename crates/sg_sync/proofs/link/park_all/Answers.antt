@@ -1,4 +1,4 @@
-use Rattle.std.proofs.Common.{◌≡◌, ◌<◌, ℕ, List, length, refl, Some, ap, sym, ◌∙◌, arith}
+use Rattle.std.proofs.Common.{ap, sym, ◌∙◌, arith}
 use Rattle.std.proofs.lemmas.Option.{slice_get-get_or}
 use Rattle.sg_nodes.specs.Forest.{Forest}
 use Rattle.sg_nodes.specs.Stored.{forest_of}
@@ -23,6 +23,6 @@ hang-requires-clause-can_move c =
 pub loop-serial-preserved : goal.loop-serial-preserved
 loop-serial-preserved c = (
   flat_after (slots_of c.args.scene.now.items) c.args.serials.now c.args.root.slot c.loop-serial.serial-index 0 (omega arith) (forest_of c.args.nodes.now) (forest_of c.loop-serial.nodes) (forest_of c.hang.new.nodes)
-  c.loop-serial.invariant.0 c.hang.ensures.after,
+      c.loop-serial.invariant.0 c.hang.ensures.after,
   c.hang.ensures.forest,
 )

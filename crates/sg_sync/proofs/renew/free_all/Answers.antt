@@ -1,8 +1,7 @@
-use Rattle.std.proofs.Common.{◌≡◌, ℕ, ◌+◌, ◌<◌, List, [], ◌∷◌, ◌++◌, take, drop, length, get_or, Some, is_some, refl, ap, sym, ◌∙◌, subst, arith}
-use Rattle.std.proofs.lemmas.Option.{slice_get-get_or}
+use Rattle.std.proofs.Common.{List, [], refl, ap, ◌∙◌, subst, arith}
 use Rattle.std.proofs.lemmas.List.{take_all}
 use Rattle.links.specs.declared.node_key.NodeKey.{NodeKey}
-use Rattle.sg_nodes.specs.Forest.{Forest, key_of}
+use Rattle.sg_nodes.specs.Forest.{Forest}
 use Rattle.sg_nodes.specs.Stored.{forest_of}
 use Rattle.sg_sync.specs.Swapping.{Swapped}
 use Rattle.sg_sync.proofs.Swapping.{swapped_none}

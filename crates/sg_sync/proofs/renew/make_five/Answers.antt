@@ -1,4 +1,4 @@
-use Rattle.std.proofs.Common.{◌≡◌, ◌<◌, ◌≤◌, List, length, pos, refl, ap, sym, ◌∙◌, subst, arith, take, [], map as list_map}
+use Rattle.std.proofs.Common.{List, pos, ◌∙◌, subst, arith, take, [], map as list_map}
 use Rattle.std.proofs.lemmas.List.{take_all, length-set}
 use Rattle.links.specs.declared.node_key.NodeKey.{NodeKey}
 use Rattle.item_geometry.specs.declared.parts.RectPart.{RectPart}

@@ -1,11 +1,11 @@
-use Rattle.std.proofs.Common.{◌≡◌, ◌≤◌, ◌+◌, ◌-◌, ℕ, Some, Option, IfSome, refl, ap, sym, ◌∙◌, subst, arith}
+use Rattle.std.proofs.Common.{◌≡◌, Some, Option, IfSome, refl, ap, ◌∙◌, subst, arith}
 use Rattle.sg_nodes.specs.declared.node.Node.{Node}
 use Rattle.sg_nodes.specs.declared.node.NodeKind.TheVariants.{Rect as RectKind}
 use Rattle.sg_nodes.specs.declared.node.NodeBody.TheVariants.{Rect as RectBody}
 use Rattle.sg_nodes.specs.Bodies.{fresh_body}
 use Rattle.sg_nodes.specs.Forest.{Forest, put}
 use Rattle.sg_nodes.specs.Stored.{forest_of}
-use Rattle.sg_sync.specs.Swapping.{Swapped, rect_node}
+use Rattle.sg_sync.specs.Swapping.{rect_node}
 use Rattle.sg_sync.proofs.Swapping.{made_node, swapped_made, swapped_again}
 use Rattle.sg_sync.proofs.renew.make_rect.Goals as goal
 use Rattle.sg_sync.proofs.renew.make_rect.Goals.{After-set_rect}

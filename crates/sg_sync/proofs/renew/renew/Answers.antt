@@ -1,5 +1,4 @@
-use Rattle.std.proofs.Common.{◌≡◌, List, [], ◌∷◌, map as list_map, Some, ap, sym, ◌∙◌, subst}
-use Rattle.std.specs.FinMap as map
+use Rattle.std.proofs.Common.{◌∷◌, map as list_map, sym, ◌∙◌, subst}
 use Rattle.item_geometry.specs.Rectangle.{parts_of}
 use Rattle.scene.specs.Keys.{rect_keys, keys_of}
 use Rattle.scene.specs.Picture.{Item}

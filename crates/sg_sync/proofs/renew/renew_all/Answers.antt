@@ -1,8 +1,8 @@
-use Rattle.std.proofs.Common.{◌≡◌, ◌<◌, ◌≤◌, ℕ, ◌+◌, ◌*◌, List, ◌∷◌, take, drop, length, get_or, Some, refl, ap, sym, ◌∙◌, subst, arith}
+use Rattle.std.proofs.Common.{◌≡◌, ◌<◌, ℕ, ◌+◌, List, take, drop, length, get_or, ap, sym, ◌∙◌, subst, arith}
 use Rattle.std.specs.FinMap as map
 use Rattle.std.proofs.lemmas.List.{drop_more}
 use Rattle.links.specs.declared.node_key.NodeKey.{NodeKey}
-use Rattle.scene.specs.Picture.{Item, Items, Picture, with_keys}
+use Rattle.scene.specs.Picture.{Items, Picture, with_keys}
 use Rattle.sg_nodes.specs.Stored.{forest_of}
 use Rattle.sg_sync.specs.Counting.{made_for, freed_for, total}
 use Rattle.sg_sync.specs.Dressing.{Dressing, AreLinked, HasNoParent, SamePaints}

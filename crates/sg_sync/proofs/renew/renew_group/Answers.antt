@@ -1,10 +1,10 @@
-use Rattle.std.proofs.Common.{◌≡◌, Some, Option, IfSome, ap, sym, ◌∙◌, subst, [], ◌∷◌}
+use Rattle.std.proofs.Common.{◌≡◌, Some, Option, IfSome, ap, ◌∙◌, subst}
 use Rattle.sg_nodes.specs.declared.node.Node.{Node}
 use Rattle.sg_nodes.specs.declared.node.NodeBody.TheVariants.{Group as GroupBody}
 use Rattle.sg_nodes.specs.Forest.{put}
 use Rattle.sg_nodes.specs.Stored.{forest_of}
 use Rattle.sg_standing.specs.Standing.{group_of}
-use Rattle.sg_sync.specs.Swapping.{Swapped, group_node}
+use Rattle.sg_sync.specs.Swapping.{group_node}
 use Rattle.sg_sync.proofs.Swapping.{swapped_again, first_node}
 use Rattle.sg_sync.proofs.renew.renew_group.Goals as goal
 

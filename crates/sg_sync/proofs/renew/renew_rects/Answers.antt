@@ -1,4 +1,4 @@
-use Rattle.std.proofs.Common.{◌≡◌, List, length, map as list_map, is_some, ap, sym, ◌∙◌, subst, []}
+use Rattle.std.proofs.Common.{List, map as list_map, is_some, ap, subst, []}
 use Rattle.links.specs.declared.node_key.NodeKey.{NodeKey}
 use Rattle.item_geometry.specs.declared.parts.RectPart.{RectPart}
 use Rattle.scene.specs.Keys.{rect_keys}

@@ -1,10 +1,7 @@
-use Rattle.std.proofs.Common.{◌≡◌, ◌<◌, List, Option, Some, IfSome, pos, length, refl, ap, sym, ◌∙◌, subst, arith, take, [], map as list_map}
+use Rattle.std.proofs.Common.{List, pos, ◌∙◌, subst, arith, take, [], map as list_map}
 use Rattle.std.proofs.lemmas.List.{take_all}
 use Rattle.links.specs.declared.node_key.NodeKey.{NodeKey}
 use Rattle.item_geometry.specs.declared.parts.RectPart.{RectPart}
-use Rattle.sg_nodes.specs.declared.node.Node.{Node}
-use Rattle.sg_nodes.specs.declared.node.NodeBody.TheVariants.{Rect as RectBody}
-use Rattle.sg_nodes.specs.Forest.{Forest, put, key_of}
 use Rattle.sg_nodes.specs.Stored.{forest_of}
 use Rattle.sg_sync.specs.Swapping.{Swapped, rect_node}
 use Rattle.sg_sync.proofs.Setting.{set_of, set_kind, set_more, set_spare}
