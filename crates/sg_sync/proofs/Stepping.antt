@@ -1,5 +1,5 @@
 -- One more item has its nodes brought up to date.
-use Rattle.std.proofs.Common.{◌≡◌, ◌≢◌, ◌⊎◌, ⊎_elim, inl, inr, ℕ, suc, cond, eqb, List, ◌∷◌, ◌++◌, map as list_map, take, drop, Option, Some, None, IsSome, option_map, refl, ap, sym, ◌∙◌, subst, arith, eq-eqb}
+use Rattle.std.proofs.Common.{length, ◌≡◌, ◌≢◌, ◌⊎◌, ⊎_elim, inl, inr, ℕ, suc, cond, eqb, List, ◌∷◌, ◌++◌, map as list_map, take, drop, Option, Some, None, IsSome, option_map, refl, ap, sym, ◌∙◌, subst, arith, eq-eqb}
 use Rattle.std.specs.Prelude.{unwrap_or}
 use Rattle.std.specs.Option.{option_and_then}
 use Rattle.std.specs.List.{slice_get}
@@ -20,6 +20,7 @@ use Rattle.sg_standing.specs.Standing.{group_slot, KeyAt, IsOwned, HasKinds}
 use Rattle.sg_sync.specs.Own.{IsIn, slot_or, own_slots}
 use Rattle.sg_sync.specs.Linking.{HasSegment}
 use Rattle.sg_sync.specs.Swapping.{IsSlotOf, Swapped, group_node, rect_node}
+use Rattle.sg_sync.specs.Counting.{KeepsKeys, AllKeep}
 use Rattle.sg_sync.specs.Dressing.{IsDressed, AreLinked, HasNoParent, Dressing, SamePaints, CanRenew}
 use Rattle.sg_sync.proofs.Members.{in_first, in_rest, first_or_rest, in_left, in_right, in_mapped, distinct_by_place, one_place, map_alike, map_twice}
 use Rattle.sg_sync.proofs.Dressed.{group_at, rect_at, slot_is, own_cases}
@@ -293,3 +294,24 @@ module _ {f g : Forest} {items : Items} {root s : ℕ} {rest : List ℕ} {item :
             (own_cases items one slot mine)));
         grown = λ c is. subst IsSome (sym (group_same c (old.grown c is))) (old.grown c is);
       }
+
+-- one more item keeps its keys
+pub keep_step : (first items next : Items) (s : ℕ) (item : Item) (keys : ItemKeys) → map.get items s ≡ Some item → map.get items s ≡ map.get first s → next ≡ with_keys s keys items → AllKeep first items
+    → ((key : NodeKey) → item.keys.group ≡ Some key → keys.group ≡ Some key) → (length (rect_keys item.keys.rects) ≡ length (parts_of item.paint.rects) → keys.rects ≡ item.keys.rects) → AllKeep first next
+keep_step first items next s item keys at same next_is keep group rects t was e =
+    ⊎_elim
+    (λ (here : t ≡ s).
+    let is : item ≡ was = same_Some item was (sym at ∙ (same ∙ (ap (map.get first) (sym here) ∙ e))) in (
+      record item { keys = keys },
+      (
+        ap (λ (m : Items). map.get m t) next_is ∙ get_same items s item keys at t here,
+        subst (λ (i : Item). KeepsKeys i (record item { keys = keys })) is (record { group = group; rects = rects }),
+      ),
+    ))
+    (λ (ne : t ≢ s).
+    let old = keep t was e in
+    (old.0, (ap (λ (m : Items). map.get m t) next_is ∙ (get_other items s item keys at t ne ∙ old.1.0), old.1.1)))
+    (cases_eq t s)
+
+pub all_keep : (items : Items) → AllKeep items items
+all_keep items t item e = (item, (e, record { group = λ key is. is; rects = λ same. refl }))

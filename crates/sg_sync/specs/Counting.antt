@@ -1,6 +1,7 @@
--- How many nodes are made and freed for items.
-use Rattle.std.specs.Prelude.{ℕ, ◌+◌, ◌==◌, if◌then◌else◌, List, [], ◌∷◌, length, Option, Some, None, is_some}
+-- Which keys items keep, and how many nodes are made and freed for them.
+use Rattle.std.specs.Prelude.{◌≡◌, ℕ, ◌+◌, ◌==◌, if◌then◌else◌, List, [], ◌∷◌, length, Option, Some, None, is_some}
 use Rattle.std.specs.FinMap as map
+use Rattle.links.specs.declared.node_key.NodeKey.{NodeKey}
 use Rattle.item_geometry.specs.declared.parts.Rects.{Rects}
 use Rattle.item_geometry.specs.Rectangle.{parts_of}
 use Rattle.scene.specs.declared.keys.ItemKeys.{ItemKeys}
@@ -27,3 +28,12 @@ freed_for (Some item) = freed_by item.keys item.paint.rects
 abbrev pub total : (Option Item → ℕ) → Items → List ℕ → ℕ
 total count items [] = 0
 total count items (serial ∷ serials) = count (map.get items serial) + total count items serials
+
+-- an item keeps its group, and its rectangles where it has as many as before
+pub record KeepsKeys (old new : Item) : Type 0 where
+  pub group : (key : NodeKey) → old.keys.group ≡ Some key → new.keys.group ≡ Some key
+  pub rects : length (rect_keys old.keys.rects) ≡ length (parts_of old.paint.rects) → new.keys.rects ≡ old.keys.rects
+
+-- so does each item, and none is gone
+abbrev pub AllKeep : Items → Items → Type 0
+AllKeep old new = (serial : ℕ) (item : Item) → map.get old serial ≡ Some item → (now : Item) × ((map.get new serial ≡ Some now) × KeepsKeys item now)

@@ -15,7 +15,7 @@ ghost use Rattle.sg_standing.specs.Standing.{group_of, rect_of};
 ghost use Rattle.sg_sync.specs.Own.{IsIn};
 ghost use Rattle.sg_sync.specs.Linking.{Distinct};
 ghost use Rattle.sg_sync.specs.Dressing.{CanRenew, Dressing, AreLinked, HasNoParent, SamePaints};
-ghost use Rattle.sg_sync.specs.Counting.{made_by, freed_by, made_for, freed_for, total};
+ghost use Rattle.sg_sync.specs.Counting.{made_by, freed_by, made_for, freed_for, total, AllKeep};
 ghost use Rattle.sg_sync.specs.Swapping.{Swapped, group_node, rect_node, IsOfItem};
 
 use crate::link::rect_slice;
@@ -177,6 +177,7 @@ fn renew_rects(nodes: &mut Nodes, serial: u64, keys: RectKeys, rects: &Rects) ->
     requires room { 5 ≤ nodes.old.spare }
     requires forest { IsForest (forest_of nodes.old) }
     ensures swapped { Swapped (forest_of nodes.old) (forest_of nodes.new) (rect_keys keys) (rect_keys result) (rect_keys keys) (list_map (rect_node serial) (parts_of rects.now)) }
+    ensures kept { length (rect_keys keys) ≡ length (parts_of rects.now) → result ≡ keys }
     ensures spare { nodes.old.spare ≤ nodes.new.spare + 5 }
     ensures forest { IsForest (forest_of nodes.new) }
 {
@@ -227,6 +228,8 @@ fn renew(nodes: &mut Nodes, scene: &mut Scene, serial: u64, done: &mut Synced) -
         (group_node serial item.paint ∷ list_map (rect_node serial) (parts_of item.paint.rects)) }
     ensures kept { (item : Item) (key : Key) → map.get scene.old.items serial ≡ Some item
         → item.keys.group ≡ Some key → result.group ≡ Some key }
+    ensures kept_rects { (item : Item) → map.get scene.old.items serial ≡ Some item
+        → length (rect_keys item.keys.rects) ≡ length (parts_of item.paint.rects) → result.rects ≡ item.keys.rects }
     ensures group { IsSome result.group }
     ensures scene { scene.new ≡ record scene.old {
       items = with_keys serial result scene.old.items;
@@ -276,6 +279,7 @@ pub(crate) fn renew_all(nodes: &mut Nodes, scene: &mut Scene, serials: &[u64], d
     ensures paints { SamePaints scene.old.items scene.new.items }
     ensures others { (serial : ℕ) → ¬ IsIn serials.now serial
         → map.get scene.new.items serial ≡ map.get scene.old.items serial }
+    ensures keep { AllKeep scene.old.items scene.new.items }
     ensures scene { scene.new ≡ record scene.old { items = scene.new.items; dirty = [] } }
     ensures counted { done.new ≡ record done.old {
       made = done.old.made + total made_for scene.old.items serials.now;

@@ -7,7 +7,7 @@ ghost use Rattle.sg_standing.specs.Standing.{Agree, Stand, KeyAt};
 ghost use Rattle.sg_sync.specs.Own.{IsIn};
 ghost use Rattle.sg_sync.specs.Linking.{Distinct};
 ghost use Rattle.sg_sync.specs.Dressing.{SamePaints};
-ghost use Rattle.sg_sync.specs.Counting.{made_for, freed_for, total};
+ghost use Rattle.sg_sync.specs.Counting.{made_for, freed_for, total, AllKeep};
 
 use crate::dirty::dirty_items;
 use crate::link::{group_key, link_all, park_all};
@@ -43,6 +43,7 @@ fn update(nodes: &mut Nodes, scene: &mut Scene, serials: &[u64]) -> Synced
     ensures paints { SamePaints scene.old.items scene.new.items }
     ensures others { (serial : ℕ) → ¬ IsIn serials.now serial
         → map.get scene.new.items serial ≡ map.get scene.old.items serial }
+    ensures keep { AllKeep scene.old.items scene.new.items }
     ensures scene { scene.new ≡ record scene.old { items = scene.new.items; dirty = []; released = [] } }
     ensures counted { result ≡ record {
       visits = length serials.now + length scene.old.released;
@@ -93,6 +94,7 @@ pub fn sync(alloc: Global, nodes: &mut Nodes, scene: &mut Scene) -> Result<Synce
     ensures kept_nodes { OnOk result ((serial place slot : ℕ) (item : Item)
         → map.get scene.old.items serial ≡ Some item → ¬ IsDirty scene.old serial → KeyAt item place slot
         → (forest_of nodes.new).node slot ≡ (forest_of nodes.old).node slot) }
+    ensures keep { OnOk result (AllKeep scene.old.items scene.new.items) }
     ensures counted { IfOk result (λ done. done ≡ record {
       visits = length scene.old.dirty + length scene.old.released;
       made = total made_for scene.old.items scene.old.dirty;

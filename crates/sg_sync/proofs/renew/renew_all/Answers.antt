@@ -1,4 +1,4 @@
-use Rattle.std.proofs.Common.{◌≡◌, ◌<◌, ℕ, ◌+◌, List, take, drop, length, get_or, ap, sym, ◌∙◌, subst, arith}
+use Rattle.std.proofs.Common.{refl, ◌≡◌, ◌<◌, ℕ, ◌+◌, List, take, drop, length, get_or, ap, sym, ◌∙◌, subst, arith}
 use Rattle.std.specs.FinMap as map
 use Rattle.std.proofs.lemmas.List.{drop_more}
 use Rattle.links.specs.declared.node_key.NodeKey.{NodeKey}
@@ -10,6 +10,7 @@ use Rattle.sg_sync.proofs.Dressed.{the_item}
 use Rattle.sg_sync.proofs.Renewing.{same_item, paints_back}
 use Rattle.sg_sync.proofs.Stepping.{dressing_after, linked_after, no_parent_after, can_renew, paints_after, get_other}
 use Rattle.sg_sync.proofs.Counting.{at_place, not_after, not_before, dirty_rest, still_not, total_more, scene_step, count_step}
+use Rattle.sg_sync.proofs.Stepping.{keep_step, all_keep}
 use Rattle.sg_sync.proofs.renew.renew_all.Goals as goal
 
 pub renew-keys-requires-clause-can_renew : goal.renew-keys-requires-clause-can_renew
@@ -53,6 +54,8 @@ loop-serial-preserved c =
           let still = still_not serials i lt serial absent in
           ap (λ (m : Items). map.get m serial) items_are
           ∙ (get_other c.loop-serial.scene.items s one.0 keys one.1 serial still.0 ∙ c.loop-serial.invariant.others serial still.1);
+      keep =
+          keep_step c.args.scene.now.items c.loop-serial.scene.items c.renew-keys.new.scene.items s one.0 keys one.1 same_get items_are c.loop-serial.invariant.keep kept (c.renew-keys.ensures.kept_rects one.0 one.1);
       scene =
           scene_step c.args.scene.now c.loop-serial.scene c.renew-keys.new.scene after s (drop i serials) (drop (i + 1) serials) c.loop-serial.invariant.scene c.renew-keys.ensures.scene
           (dirty_rest serials i lt c.requires.distinct);
@@ -66,4 +69,23 @@ loop-serial-preserved c =
           (ap (λ o. total made_for c.args.scene.now.items (take i serials) + made_for o) same_get ∙ total_more serials i lt made_for c.args.scene.now.items)
           (ap (λ o. total freed_for c.args.scene.now.items (take i serials) + freed_for o) same_get ∙ total_more serials i lt freed_for c.args.scene.now.items);
       forest = c.renew-keys.ensures.forest;
+    }
+
+pub loop-serial-init : goal.loop-serial-init
+loop-serial-init c =
+    let made : c.args.done.now.made ≡ c.args.done.now.made + 0 = omega arith in
+    let freed : c.args.done.now.released ≡ c.args.done.now.released + 0 = omega arith in
+    record {
+      dressing = c.requires.dressing;
+      linked = c.requires.linked;
+      no_parent = c.requires.no_parent;
+      paints = λ serial. refl;
+      others = λ serial absent. refl;
+      keep = all_keep c.args.scene.now.items;
+      scene = ap (λ (xs : List ℕ). record c.args.scene.now { dirty = xs }) c.requires.dirty;
+      room = let enough = c.requires.room in omega arith;
+      few_made = omega arith;
+      few_released = omega arith;
+      counted = λ i. record c.args.done.now { made = made i; released = freed i };
+      forest = c.requires.forest;
     }
