@@ -1,18 +1,17 @@
 -- Items that are repainted and added.
-use Rattle.std.proofs.Common.{◌≡◌, ◌≢◌, ◌⊎◌, ⊎_elim, inl, inr, ℕ, zero, suc, ◌+◌, ◌-◌, ◌≤◌, ◌<◌, Bool, true, false, eqb, cond, length, List, [], ◌∷◌, ◌++◌, reverse, get_or, Option, Some, None, IsSome, is_some, option_map, refl, ap, sym, ◌∙◌, subst, arith, eq-eqb, append-nil}
+use Rattle.std.proofs.Common.{◌≡◌, ◌≢◌, ◌⊎◌, ⊎_elim, inl, inr, ℕ, zero, suc, ◌+◌, ◌-◌, ◌≤◌, ◌<◌, Bool, true, false, eqb, cond, length, List, [], ◌∷◌, ◌++◌, reverse, get_or, Option, Some, None, IsSome, is_some, option_map, refl, ap, sym, ◌∙◌, subst, arith, eq-eqb}
 use Rattle.std.specs.List.{slice_get}
 use Rattle.std.specs.FinMap as map
 use Rattle.std.proofs.lemmas.Option.{none-some, same_Some, slice_get_within, slice_get-get_or, get_or_from_slice_get}
 use Rattle.std.proofs.lemmas.Bool.{cases_eq, ne_eqb, false≢true}
 use Rattle.std.proofs.lemmas.List.{length-reverse, get_or-reverse, reverse-reverse, length_push}
-use Rattle.scene.specs.declared.keys.ItemKeys.{ItemKeys}
 use Rattle.scene.specs.declared.paint.Paint.{Paint}
 use Rattle.scene.specs.Dirty.{marked}
-use Rattle.scene.specs.Picture.{Item, Items, Picture, with_paint, keys_or_none, no_keys, IsDirty}
+use Rattle.scene.specs.Picture.{Item, Items, Picture, with_paint, keys_or_none, no_keys}
 use Rattle.sg_nodes.specs.Forest.{Forest}
 use Rattle.sg_standing.specs.Trees.{IsTree, IsItem, Names}
 use Rattle.sg_standing.specs.Standing.{Agree}
-use Rattle.sg_standing.specs.Changing.{IsChanged, IsGone}
+use Rattle.sg_standing.specs.Changing.{IsChanged}
 use Rattle.sg_sync.specs.Own.{IsIn}
 use Rattle.sync_tests.specs.Staged.{IsStaged, IsReordered}
 use Rattle.sync_tests.proofs.Maps.{put_same, put_other, is_marked, still_marked}
@@ -50,19 +49,19 @@ reordered_other xs = record {
 }
 
 -- one more at the end
-at_pushed : (xs : List ℕ) (y place c : ℕ) → slice_get (xs ++ y ∷ []) place ≡ Some c → (slice_get xs place ≡ Some c) ⊎ ((place ≡ length xs) × (c ≡ y))
+pub at_pushed : (xs : List ℕ) (y place c : ℕ) → slice_get (xs ++ y ∷ []) place ≡ Some c → (slice_get xs place ≡ Some c) ⊎ ((place ≡ length xs) × (c ≡ y))
 at_pushed [] y zero c e = inr (refl, sym (same_Some y c e))
 at_pushed [] y (suc place) c e = absurd (none-some c e)
 at_pushed (x ∷ xs) y zero c e = inl e
 at_pushed (x ∷ xs) y (suc place) c e =
     ⊎_elim (λ (old : slice_get xs place ≡ Some c). inl old) (λ (new : (place ≡ length xs) × (c ≡ y)). inr (ap suc new.0, new.1)) (at_pushed xs y place c e)
 
-before_pushed : (xs : List ℕ) (y place c : ℕ) → slice_get xs place ≡ Some c → slice_get (xs ++ y ∷ []) place ≡ Some c
+pub before_pushed : (xs : List ℕ) (y place c : ℕ) → slice_get xs place ≡ Some c → slice_get (xs ++ y ∷ []) place ≡ Some c
 before_pushed [] y place c e = absurd (none-some c e)
 before_pushed (x ∷ xs) y zero c e = e
 before_pushed (x ∷ xs) y (suc place) c e = before_pushed xs y place c e
 
-last_pushed : (xs : List ℕ) (y : ℕ) → slice_get (xs ++ y ∷ []) (length xs) ≡ Some y
+pub last_pushed : (xs : List ℕ) (y : ℕ) → slice_get (xs ++ y ∷ []) (length xs) ≡ Some y
 last_pushed [] y = refl
 last_pushed (x ∷ xs) y = last_pushed xs y
 

@@ -1,3 +1,4 @@
 mod Maps
 mod Staging
 mod Growing
+mod Pruning

@@ -1,14 +1,13 @@
 -- Items that are put, and serials that are marked.
-use Rattle.std.proofs.Common.{◌≡◌, ◌≢◌, ◌⊎◌, ⊎_elim, inl, inr, ℕ, zero, suc, Bool, true, false, ◌||◌, cond, eqb, List, [], ◌∷◌, ◌++◌, Option, Some, None, IsSome, is_some, refl, ap, sym, ◌∙◌, subst, eq-eqb}
+use Rattle.std.proofs.Common.{◌≡◌, ◌≢◌, ⊎_elim, ℕ, zero, suc, Bool, true, false, cond, eqb, List, [], ◌∷◌, ◌++◌, Some, IsSome, is_some, refl, ap, sym, ◌∙◌, subst, eq-eqb}
 use Rattle.std.specs.List.{slice_get, list_any}
-use Rattle.std.specs.Ordering.{nat_cmp, eq_by_cmp}
 use Rattle.std.specs.Cmp.{nat_cmp_total, unsigned_tied}
 use Rattle.std.specs.FinMap as map
 use Rattle.std.proofs.lemmas.Option.{none-some}
-use Rattle.std.proofs.lemmas.Bool.{cases_eq, ne_eqb, cases_Bool, or_cases, eqb-true, false≢true}
+use Rattle.std.proofs.lemmas.Bool.{cases_eq, ne_eqb, or_cases, eqb-true, false≢true}
 use Rattle.scene.specs.declared.paint.Paint.{Paint}
 use Rattle.scene.specs.Dirty.{marked}
-use Rattle.scene.specs.Picture.{Item, Items, with_paint, keys_or_none}
+use Rattle.scene.specs.Picture.{Items, with_paint, keys_or_none}
 use Rattle.sg_sync.specs.Own.{IsIn}
 
 -- one item is put

@@ -1,21 +1,16 @@
 -- Nodes agree with a scene, in which no item stands deeper.
-use Rattle.std.proofs.Common.{◌≡◌, ◌≢◌, ◌⊎◌, ⊎_elim, inl, inr, ℕ, zero, suc, ◌+◌, ◌≤◌, ◌<◌, length, List, [], ◌∷◌, ◌++◌, Option, Some, None, IsSome, is_some, option_map, refl, ap, sym, ◌∙◌, subst, arith}
+use Rattle.std.proofs.Common.{◌≡◌, ◌≢◌, ⊎_elim, ℕ, ◌≤◌, length, [], Option, Some, None, IsSome, is_some, option_map, refl, ap, sym, ◌∙◌, subst, arith}
 use Rattle.std.specs.List.{slice_get}
 use Rattle.std.specs.FinMap as map
-use Rattle.std.specs.Ordering.{nat_cmp}
 use Rattle.std.proofs.lemmas.Option.{none-some, same_Some}
 use Rattle.std.proofs.lemmas.Bool.{cases_eq}
 use Rattle.scene.specs.declared.paint.Paint.{Paint}
-use Rattle.scene.specs.Dirty.{marked}
-use Rattle.scene.specs.Picture.{Item, Items, Picture, with_paint, keys_or_none, no_keys, IsDirty}
+use Rattle.scene.specs.Picture.{Item, Items, Picture, no_keys, IsDirty}
 use Rattle.sg_nodes.specs.Forest.{Forest}
 use Rattle.sg_standing.specs.Trees.{IsTree, IsItem, Names}
 use Rattle.sg_standing.specs.Standing.{Agree, Stand}
-use Rattle.sg_standing.specs.Changing.{IsChanged}
-use Rattle.sg_sync.specs.Own.{IsIn}
 use Rattle.sg_sync.specs.Dressing.{SamePaints}
 use Rattle.sync_tests.specs.Staged.{IsStaged}
-use Rattle.sync_tests.proofs.Maps.{put_same, put_other, is_marked, still_marked}
 
 pub there : (o : Option Item) → IsSome o → (i : Item) × (o ≡ Some i)
 there None is = cc

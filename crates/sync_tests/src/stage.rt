@@ -1,5 +1,7 @@
-ghost use Rattle.std.specs.Prelude.{◌≡◌, ◌≤◌, ◌<◌, ◌+◌, true, false, ◌++◌, ◌∷◌, [], IfOk, length};
-ghost use Rattle.sync_tests.specs.Staged.{IsReordered};
+ghost use Rattle.std.specs.Prelude.{◌≡◌, ◌≤◌, ◌<◌, ◌+◌, true, false, ◌++◌, ◌∷◌, [], List, ℕ, Some, IsSome, IfSome, IfOk, length};
+ghost use Rattle.std.specs.FinMap as map;
+ghost use Rattle.scene.specs.Picture.{Item};
+ghost use Rattle.sync_tests.specs.Staged.{IsReordered, IsLastLeaf};
 
 use item_geometry::Rects;
 use scene::{Children, Paint, Scene};
@@ -108,6 +110,46 @@ fn with_child(alloc: Global, paint: &Paint, child: u64) -> Result<Paint, AllocEr
     })
 }
 
+/// The last child of a parent, where it has no children itself.
+fn last_leaf(scene: &Scene, parent: u64) -> Option<u64>
+    ensures { IfSome result (IsLastLeaf scene.now.items parent) }
+{
+    let paint = scene.record(parent)?;
+    let child = *paint.children.as_slice().last()?;
+    let leaf = scene.record(child)?;
+    if leaf.children.is_empty() {
+        Some(child)
+    } else {
+        None
+    }
+}
+
+/// What an item is painted as without its last child.
+fn without_last(alloc: Global, scene: &Scene, parent: u64) -> Result<Paint, AllocError>
+    requires { IsSome (map.get scene.now.items parent) }
+    ensures children { IfOk result (λ less. (item : Item) (others : List ℕ) (last : ℕ)
+        → map.get scene.now.items parent ≡ Some item → item.paint.children ≡ others ++ last ∷ [] → less.children ≡ others) }
+    ensures under { IfOk result (λ less. less.under ≤ length less.children) }
+{
+    let Some(paint) = scene.record(parent) else {
+        unreachable!()
+    };
+    let mut children = Vec::from_slice(alloc, paint.children.as_slice())?;
+    let _last = children.pop();
+    let under = paint.under.min(children.len());
+    Ok(Paint {
+        children: Children::from_vec(children),
+        x: paint.x,
+        y: paint.y,
+        w: paint.w,
+        h: paint.h,
+        clip: paint.clip,
+        shown: paint.shown,
+        rects: paint.rects,
+        under,
+    })
+}
+
 impl Stage {
     /// The content item alone, without nodes.
     pub fn new(alloc: Global, look: Look) -> Result<Stage, AllocError> {
@@ -205,6 +247,32 @@ impl Stage {
         changes_agree();
         let at_root = parent == scene.root();
         let deepest = deeper(deepest, at_root);
+        Ok(Stage {
+            nodes,
+            scene,
+            deepest,
+        })
+    }
+
+    /// Takes the last child of a parent away, where it has no children itself.
+    pub fn pruned(self, alloc: Global, parent: u64) -> Result<Stage, AllocError> {
+        let Stage {
+            nodes,
+            mut scene,
+            deepest,
+        } = self;
+        let Some(child) = last_leaf(&scene, parent) else {
+            return Ok(Stage {
+                nodes,
+                scene,
+                deepest,
+            });
+        };
+        let narrower = without_last(alloc, &scene, parent)?;
+        scene.remove(child);
+        scene.put(parent, narrower)?;
+        scene.mark(parent);
+        changes_agree();
         Ok(Stage {
             nodes,
             scene,

@@ -201,3 +201,14 @@ fn deep_items(rt: HostRuntime) -> Result<(), Fail> {
     assert!(rt; synced == counts(257, 257, 0) && again == counts(1, 0, 0) && placed);
     Ok(())
 }
+
+#[test]
+fn removed_items_free_their_nodes(rt: HostRuntime) -> Result<(), Fail> {
+    let (stage, _) = family(rt.alloc())?;
+    let stage = stage.pruned(rt.alloc(), 3)?.pruned(rt.alloc(), ROOT)?;
+    let (stage, first) = stage.synced(rt.alloc())?;
+    let (stage, second) = stage.pruned(rt.alloc(), ROOT)?.synced(rt.alloc())?;
+    let gone = stage.scene().keys(3).is_none() && children_at(&stage, ROOT, &[2]);
+    assert!(rt; first == counts(4, 0, 2) && second == counts(3, 0, 2) && gone);
+    Ok(())
+}

@@ -1,4 +1,4 @@
-use Rattle.std.proofs.Common.{◌≡◌, ℕ, List, reverse, sym, ap, ◌∙◌, subst}
+use Rattle.std.proofs.Common.{ℕ, List, reverse, sym, ap, ◌∙◌, subst}
 use Rattle.sync_tests.specs.Staged.{IsReordered}
 use Rattle.sync_tests.proofs.Growing.{reordered_same, reordered_other}
 use Rattle.sync_tests.proofs.stage.in_order.Goals as goal

@@ -1,8 +1,6 @@
-use Rattle.std.proofs.Common.{◌≡◌, ◌≤◌, ◌+◌, ℕ, List, [], ◌∷◌, ◌++◌, Some, IsSome, ap, sym, ◌∙◌, refl, is_some, subst, arith}
+use Rattle.std.proofs.Common.{◌≤◌, ℕ, List, [], ◌∷◌, ◌++◌, IsSome, ap, sym, ◌∙◌, refl, is_some, subst, arith}
 use Rattle.std.specs.FinMap as map
-use Rattle.std.proofs.lemmas.Bool.{cases_eq}
-use Rattle.scene.specs.Picture.{Picture, Items, with_paint}
-use Rattle.sg_nodes.specs.Stored.{forest_of}
+use Rattle.scene.specs.Picture.{Picture}
 use Rattle.sync_tests.proofs.Maps.{put_same, put_stays}
 use Rattle.sync_tests.proofs.Growing.{grown_staged, item_read, under_read, none_of, deep_enough, both_marked}
 use Rattle.sync_tests.proofs.stage.Stage.grown.Goals as goal

@@ -1,7 +1,6 @@
-use Rattle.std.proofs.Common.{◌≡◌, ℕ, List, [], Some, None, ap, sym, ◌∙◌, refl, is_some, subst, nat_cmp}
+use Rattle.std.proofs.Common.{◌≡◌, ℕ, List, None, ap, sym, ◌∙◌, refl, is_some, subst, nat_cmp}
 use Rattle.std.specs.FinMap as map
-use Rattle.scene.specs.Dirty.{marked}
-use Rattle.scene.specs.Picture.{Item, Picture, Items, IsDirty, keys_or_none, with_paint}
+use Rattle.scene.specs.Picture.{Item, Picture, Items, keys_or_none, with_paint}
 use Rattle.sg_nodes.specs.Forest.{Forest}
 use Rattle.sg_nodes.specs.Stored.{forest_of}
 use Rattle.sg_standing.specs.Standing.{Agree}

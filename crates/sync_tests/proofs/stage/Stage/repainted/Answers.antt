@@ -1,8 +1,7 @@
-use Rattle.std.proofs.Common.{◌≡◌, ℕ, List, Some, ap, sym, ◌∙◌, refl, is_some, subst}
+use Rattle.std.proofs.Common.{ℕ, List, ap, sym, ◌∙◌, refl, is_some, subst}
 use Rattle.std.specs.FinMap as map
 use Rattle.scene.specs.Dirty.{marked}
-use Rattle.scene.specs.Picture.{Picture, Items}
-use Rattle.sg_nodes.specs.Stored.{forest_of}
+use Rattle.scene.specs.Picture.{Picture}
 use Rattle.sync_tests.specs.Staged.{IsReordered}
 use Rattle.sync_tests.proofs.Maps.{put_same}
 use Rattle.sync_tests.proofs.Growing.{repainted_staged, item_read}

@@ -1,4 +1,4 @@
-use Rattle.std.proofs.Common.{◌≡◌, ap}
+use Rattle.std.proofs.Common.{ap}
 use Rattle.scene.specs.Picture.{Picture}
 use Rattle.sg_nodes.specs.Stored.{forest_of}
 use Rattle.sync_tests.proofs.Staging.{synced_staged}
