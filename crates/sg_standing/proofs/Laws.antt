@@ -12,7 +12,7 @@ use Rattle.sg_nodes.specs.Forest.{Forest, no_nodes, key_of}
 use Rattle.sg_standing.specs.Trees.{IsTree}
 use Rattle.sg_standing.specs.Standing.{Agree, Stand, HasNodes, IsOwned, KeyAt, ReleasedAt}
 
-no_key : (item : Item) (i slot : ℕ) → item.keys ≡ no_keys → ¬ KeyAt item i slot
+pub no_key : (item : Item) (i slot : ℕ) → item.keys ≡ no_keys → ¬ KeyAt item i slot
 no_key item i slot e at = none-some (key_of slot) (ap (λ (k : ItemKeys). slice_get (keys_of k) i) (sym e) ∙ at)
 
 none_waits : (p : Picture) (i slot : ℕ) → p.released ≡ [] → ¬ ReleasedAt p i slot

@@ -8,6 +8,7 @@ ghost use Rattle.scene.specs.Picture.{Item, Picture, IsDirty, no_keys};
 ghost use Rattle.sg_nodes.specs.declared.node.Node.{Node};
 ghost use Rattle.sg_nodes.specs.Forest.{Forest, no_nodes};
 ghost use Rattle.sg_standing.specs.Trees.{IsTree};
+ghost use Rattle.sg_standing.specs.Changing.{IsChanged};
 ghost use Rattle.sg_standing.specs.Standing.{Agree, Stand, HasNodes, IsOwned};
 
 /// Where no nodes were made yet, they agree with each scene whose items are one tree, have no keys and
@@ -26,4 +27,10 @@ pub fn nodes_of_items()
         → map.get p.items serial ≡ Some item → HasNodes f p.items serial item }
     ensures nodes { (f : Forest) (p : Picture) (slot : ℕ) (node : Node) → Stand f p
         → f.node slot ≡ Some node → IsOwned p.items node.item slot }
+{}
+
+/// Nodes that agree with a scene agree with it after changes: of items that are repainted, added and taken
+/// away, where each of which the nodes no longer are as its record says is dirty.
+pub fn changes_agree()
+    ensures { (f : Forest) (old new : Picture) → Agree f old → IsChanged old new → Agree f new }
 {}

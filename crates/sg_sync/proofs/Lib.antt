@@ -1,0 +1,14 @@
+mod Members
+mod Linking
+mod Dressed
+mod Hanging
+mod Parking
+mod Swapping
+mod Freeing
+mod Setting
+mod Renewing
+mod Stepping
+mod Counting
+mod Starting
+mod Finishing
+mod Gathering

@@ -1,0 +1,5 @@
+pub mod Own
+pub mod Linking
+pub mod Dressing
+pub mod Swapping
+pub mod Counting

@@ -1,0 +1,4 @@
+mod Maps
+mod Staging
+mod Growing
+mod Pruning

@@ -1,0 +1,6 @@
+//! Tests of syncs.
+#![tactic(auto)]
+
+pub mod stage;
+#[cfg(test)]
+mod syncs;
