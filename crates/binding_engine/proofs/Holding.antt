@@ -1,6 +1,6 @@
 -- The equations hold of the store once its places are settled.
 use Rattle.std.proofs.Common.{◌≡◌, ℕ, Bool, true, false, List, [], ◌∷◌, refl, sym, ap, subst, ◌∙◌, arith}
-use Rattle.std.specs.Prelude.{Option, None, Some, is_some, option_map, unwrap_or, if◌then◌else◌, Result, ◌&&◌, ◌==◌, ℤ, bytes_eq, not}
+use Rattle.std.specs.Prelude.{Option, None, Some, is_some, option_map, unwrap_or, if◌then◌else◌, Result, ◌&&◌, ◌||◌, ◌==◌, ℤ, bytes_eq, not}
 use Rattle.std.specs.Ordering.{int_eq}
 use Rattle.std.proofs.lemmas.Bool.Decides.{nat_tests}
 use Rattle.qml_ast.specs.Equality.{are_equal, are_same_lines, edge_number}
@@ -19,7 +19,7 @@ use Rattle.expr_eval.specs.Walks.{ends_as}
 use Rattle.expr_eval.specs.declared.answer.Eval.{Eval}
 use Rattle.expr_eval.specs.declared.answer.Eval.TheVariants as said
 use Rattle.expr_eval.proofs.Follows.{answers}
-use Rattle.settling.specs.Cells.{Kept, Cell, plain, resting, fresh, under_way, stopped, active, marked, suspended, value_of, mark_of, is_plain, is_suspended, is_fresh, is_ended}
+use Rattle.settling.specs.Cells.{Kept, Cell, plain, resting, fresh, under_way, stopped, active, marked, suspended, value_of, mark_of, is_plain, is_suspended, is_valued, is_fresh, is_ended}
 use Rattle.settling.specs.Cells.{Becomes}
 use Rattle.settling.specs.Cells as cells
 use Rattle.settling.specs.Holding.{Equation}
@@ -34,7 +34,7 @@ use Rattle.object_tree.specs.Reading.{instance_at, binding_at, info_at, held_at}
 use Rattle.object_tree.specs.Store.{Store}
 use Rattle.object_tree.specs.Writing.{kept, marked as with_marks_at, ended}
 use Rattle.binding_engine.specs.Equations.{shape_of, given, taken_in, bound_tree, shown_tree, is_native, has_owner, equation_by, equation, has_equation, tree_at, equated}
-use Rattle.binding_engine.specs.Holding.{value_in, meanings_of, taken_or_wrong, result_of, result_by, result_at, Fulfils, Unless, HoldsOf, EquationsHold, is_newly_suspended}
+use Rattle.binding_engine.specs.Holding.{value_in, meanings_of, taken_or_wrong, result_of, result_by, result_at, Fulfils, Unless, HoldsOf, EquationsHold, KeepsLast, mark_in, is_newly_suspended}
 use Rattle.binding_engine.specs.Settling.{settled_from, is_stopped, marks_of, valued, with_cell, with_cells, settled_store}
 use Rattle.binding_engine.specs.Standing.{Standing, space, one_place, kept_in, is_suspended_in, first_of, first}
 use Rattle.binding_engine.proofs.Covered.{among, equation_placed, equation_equated, first_covers, first_is_ready}
@@ -382,6 +382,34 @@ module _ (store : Store) where
           let has : has_equation store q ≡ false = ap is_some is in
           ap is_suspended (cell_plain q has)
           ∙ sym (ap (λ (o : Option Held). is_suspended_in o && not (is_suspended_in (held_at q store))) (held_other q has) ∙ and_not (is_suspended_in (held_at q store)))
+
+  -- a place that is marked or suspended keeps its last value
+  not_valued : (c : Cell Value EvalFault) → (is_some (mark_of c) || is_stopped c) ≡ true → is_valued c ≡ false
+  not_valued (plain k) h = refl
+  not_valued (resting k) h = refl
+  not_valued (fresh k) h = refl
+  not_valued (under_way k) h = refl
+  not_valued (stopped k) h = refl
+  not_valued (active v) h = absurd cc
+  not_valued (marked v f) h = refl
+  not_valued (suspended k) h = refl
+
+  first_value : (o : Option Tree) (held : Option Held) → value_of (first_of o held) ≡ (kept_in held).value
+  first_value None held = refl
+  first_value (Some t) held = by (is_suspended_in held) refl
+    where
+      by : (b : Bool) → is_suspended_in held ≡ b → value_of (first_of (Some t) held) ≡ (kept_in held).value
+      by true e = rw e refl
+      by false e = rw e refl
+
+  pub keeps_last : KeepsLast store over
+  keeps_last q h = by (has_equation store q) refl
+    where
+      by : (b : Bool) → has_equation store q ≡ b → value_in over q ≡ value_in store q
+      by false e = ap (λ (o : Option Held). (kept_in o).value) (held_other q e)
+      by true e =
+          let here : (is_some (mark_of (cell q)) || is_stopped (cell q)) ≡ true = subst (λ (o : Option Held). (is_some (kept_in o).mark || is_suspended_in o) ≡ true) (held_equated q e) h in
+          value_over q ∙ (outcome q).last_value (not_valued (cell q) here) ∙ first_value (equation store q) (held_at q store)
 
   pub equation_over : (q : Place) → equation over q ≡ equation store q
   unfolding settled_store

@@ -1,5 +1,5 @@
 -- Equations that hold of a store, without any order of evaluation.
-use Rattle.std.specs.Prelude.{◌≡◌, Bool, true, false, not, ◌&&◌, if◌then◌else◌, Option, None, Some, List, [], ◌∷◌, Result, Ok, Err}
+use Rattle.std.specs.Prelude.{◌≡◌, Bool, true, false, not, ◌&&◌, ◌||◌, if◌then◌else◌, Option, None, Some, is_some, List, [], ◌∷◌, Result, Ok, Err}
 use Rattle.std.specs.List.{list_any}
 use Rattle.qml_ast.specs.declared.eval_fault.EvalFault.{EvalFault}
 use Rattle.qml_ast.specs.declared.eval_fault.EvalFault.TheVariants.{WrongKind}
@@ -97,6 +97,11 @@ AreChainsIn store (found ∷ loops) = IsPathIn store found.0 found.1 found.0 × 
 -- the mark of a fault that a place has
 abbrev pub mark_in : Store → Place → Option EvalFault
 mark_in store place = (kept_in (held_at place store)).mark
+
+-- A place that has the mark of a fault, or is suspended, has the value that it had in the other store.
+abbrev pub KeepsLast : Store → Store → Type 0
+KeepsLast before store =
+    (place : Place) → (is_some (mark_in store place) || is_suspended_in (held_at place store)) ≡ true → value_in store place ≡ value_in before place
 
 -- the place is suspended in the one store and was not in the other
 abbrev pub is_newly_suspended : Store → Store → Place → Bool

@@ -1,6 +1,6 @@
 ghost use Rattle.std.specs.Prelude.{◌≡◌, map, IfOk, OnOk, IsSortedByKey};
 ghost use Rattle.settling.specs.Loops.{shown};
-ghost use Rattle.binding_engine.specs.Holding.{EquationsHold, AreChainsIn, AreLoopsIn, mark_in};
+ghost use Rattle.binding_engine.specs.Holding.{EquationsHold, KeepsLast, AreChainsIn, AreLoopsIn, mark_in};
 ghost use Rattle.binding_engine.specs.Findings.{changed_in, faulted_in, faulted_from, AreLoops};
 ghost use Rattle.qml_ast.specs.declared.place.Place.{Place};
 ghost use Rattle.object_tree.specs.Reading.{held_at};
@@ -185,6 +185,7 @@ impl Engine {
     ) -> Result<Settled, AllocError>
         ensures store { OnOk result (objects.new ≡ after_settle writes.now objects.old) }
         ensures holds { OnOk result (EquationsHold objects.new) }
+        ensures keeps { OnOk result (KeepsLast (resumed_by writes.now objects.old) objects.new) }
         ensures changed { IfOk result (λ settled. settled.changed.items ≡ changed_in (settled_store (resumed_by writes.now objects.old))) }
         ensures faulted { IfOk result (λ settled. settled.faulted.items ≡ faulted_in (mark_in objects.new) (resumed_by writes.now objects.old) (equated (resumed_by writes.now objects.old))) }
         ensures loops { IfOk result (λ settled. AreLoopsIn (resumed_by writes.now objects.old) objects.new (map shown settled.loops.items)) }

@@ -6,10 +6,10 @@ use Rattle.object_tree.specs.Store.{Store}
 use Rattle.object_tree.specs.Writing.{ended}
 use Rattle.binding_engine.specs.Equations.{equated}
 use Rattle.binding_engine.specs.Findings.{faulted_in}
-use Rattle.binding_engine.specs.Holding.{EquationsHold, AreChainsIn, AreLoopsIn, mark_in}
+use Rattle.binding_engine.specs.Holding.{EquationsHold, KeepsLast, AreChainsIn, AreLoopsIn, mark_in}
 use Rattle.binding_engine.specs.Settling.{resumed_by, settled_store}
 use Rattle.binding_engine.proofs.Chains.{chains_over, loops_over, faults_over}
-use Rattle.binding_engine.proofs.Holding.{equations_hold}
+use Rattle.binding_engine.proofs.Holding.{equations_hold, keeps_last}
 use Rattle.binding_engine.proofs.engine.Engine.settle.Goals as goal
 
 -- what the settled store is
@@ -42,3 +42,9 @@ returns-clause-chains c =
     let is : Whole c.end_settle.new.self c.resume_all.new.objects = c.end_settle.ensures ∙ ap ended c.in_ok-settled.ensures.store in
     subst (λ (s : Store). AreChainsIn s (map shown c.in_ok-settled.settled.loops.items)) (sym is)
     (chains_over c.resume_all.new.objects (map shown c.in_ok-settled.settled.loops.items) (c.in_ok-settled.ensures.loops).chains)
+
+pub returns-clause-keeps : goal.returns-clause-keeps
+returns-clause-keeps c =
+    let is : Whole c.end_settle.new.self c.resume_all.new.objects = c.end_settle.ensures ∙ ap ended c.in_ok-settled.ensures.store in
+    subst (λ (b : Store). KeepsLast b c.end_settle.new.self) (c.resume_all.ensures ∙ ap (λ (ws : List Place). resumed_by ws c.args.objects.now) c.as_slice.ensures)
+    (subst (λ (s : Store). KeepsLast c.resume_all.new.objects s) (sym is) (keeps_last c.resume_all.new.objects))
