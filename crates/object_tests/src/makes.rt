@@ -23,11 +23,7 @@ fn compiled(alloc: Global, text: &str, known: &Known) -> Result<ComponentType, D
 }
 
 /// What a text declares, where the first one declares `A`.
-pub fn component(
-    alloc: Global,
-    first: &str,
-    text: &str,
-) -> Result<Shared<ComponentType>, DocFault>
+pub fn component(alloc: Global, first: &str, text: &str) -> Result<Shared<ComponentType>, DocFault>
     ensures { IfOk result IsSized }
 {
     let mut known = Known::new(alloc);
