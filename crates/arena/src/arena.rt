@@ -1,4 +1,5 @@
 ghost use Rattle.std.specs.Prelude.{◌≡◌, ◌==◌, ◌+◌, ◌^◌, ◌<◌, [], length, filter, option_copied, IsSome, Some, IfOk, OnOk, OnErr};
+ghost use Rattle.std.specs.List.Sorted.{IsStrictlySortedBy};
 ghost use Rattle.std.specs.Map.{keys_of};
 ghost use Rattle.std.specs.Option.{option_copied_mut, option_map};
 ghost use Rattle.std.specs.Borrow.{sem};
@@ -146,7 +147,8 @@ impl<T: Drop> Arena<T> {
     /// The serials that have a value, rising. The only error is that memory ran out.
     #[tactic(auto, using(crate::proofs::Slots::keys_things))]
     pub fn serials(&self, alloc: Global) -> Result<Vec<u64>, AllocError>
-        ensures { IfOk result (λ serials. serials.items ≡ keys_of self.now.things) }
+        ensures serials { IfOk result (λ serials. serials.items ≡ keys_of self.now.things) }
+        ensures rising { IfOk result (λ serials. IsStrictlySortedBy nat_cmp serials.items) }
     {
         self.keys.keys().copied().collect(alloc)
     }

@@ -34,7 +34,7 @@ use Rattle.object_tree.specs.Reading.{instance_at, binding_at, info_at, held_at}
 use Rattle.object_tree.specs.Store.{Store}
 use Rattle.object_tree.specs.Writing.{kept, marked as with_marks_at, ended}
 use Rattle.binding_engine.specs.Equations.{shape_of, given, taken_in, bound_tree, shown_tree, is_native, has_owner, equation_by, equation, has_equation, tree_at, equated}
-use Rattle.binding_engine.specs.Holding.{value_in, meanings_of, taken_or_wrong, result_of, result_by, result_at, Fulfils, Unless, HoldsOf, EquationsHold, KeepsLast, mark_in, is_newly_suspended}
+use Rattle.binding_engine.specs.Holding.{value_in, meanings_of, taken_or_wrong, result_of, result_by, result_at, Fulfils, Unless, HoldsOf, EquationsHold, KeepsLast, is_newly_suspended}
 use Rattle.binding_engine.specs.Settling.{settled_from, is_stopped, marks_of, valued, with_cell, with_cells, settled_store}
 use Rattle.binding_engine.specs.Standing.{Standing, space, one_place, kept_in, is_suspended_in, first_of, first}
 use Rattle.binding_engine.proofs.Covered.{among, equation_placed, equation_equated, first_covers, first_is_ready}

@@ -9,3 +9,4 @@ pub mod Slots
 pub mod Hollow
 pub mod Holding
 pub mod Chains
+pub mod Order

@@ -1,5 +1,5 @@
 -- What a settle answers.
-use Rattle.std.specs.Prelude.{◌≡◌, ℕ, nat_eq, Bool, false, if◌then◌else◌, Option, None, Some, List, [], ◌∷◌, ◌++◌, filter, fold}
+use Rattle.std.specs.Prelude.{◌≡◌, ℕ, nat_eq, Bool, false, if◌then◌else◌, Option, None, Some, List, [], ◌∷◌, ◌++◌, filter, fold, map}
 use Rattle.qml_ast.specs.declared.eval_fault.EvalFault.{EvalFault}
 use Rattle.qml_ast.specs.declared.eval_fault.EvalFault.TheVariants.{Overflow, ZeroDivisor, WrongKind, UnknownName, NullMember, TooMuch, TextTooLong, ReadOnly, NoMemory}
 use Rattle.qml_ast.specs.declared.place.Place.{Place}
@@ -49,6 +49,9 @@ faulted_in marks store places = fold (with_fault marks store) [] places
 -- those of a store whose places get settled
 unfoldable pub faulted_from : Store → List (Place × EvalFault)
 faulted_from store = faulted_in (λ place. mark_of (settled_from store place)) store (equated store)
+
+abbrev pub places_faulted : List (Place × EvalFault) → List Place
+places_faulted faults = map (λ f. f.0) faults
 
 -- ---- changes
 -- the places that show another value than when the last settle ended

@@ -1,8 +1,9 @@
 ghost use Rattle.std.specs.Prelude.{◌≡◌, map, IfOk, OnOk, IsSortedByKey};
 ghost use Rattle.settling.specs.Loops.{shown};
 ghost use Rattle.binding_engine.specs.Holding.{EquationsHold, KeepsLast, AreChainsIn, AreLoopsIn, mark_in};
-ghost use Rattle.binding_engine.specs.Findings.{changed_in, faulted_in, faulted_from, AreLoops};
+ghost use Rattle.binding_engine.specs.Findings.{changed_in, faulted_in, faulted_from, places_faulted, AreLoops};
 ghost use Rattle.qml_ast.specs.declared.place.Place.{Place};
+ghost use Rattle.object_tree.specs.Order.{AreRising};
 ghost use Rattle.object_tree.specs.Reading.{held_at};
 ghost use Rattle.object_tree.specs.Store.{Store};
 ghost use Rattle.binding_engine.specs.Entries.{at, cell_of, with_entry_of, with_entries};
@@ -46,6 +47,7 @@ struct Stood {
 fn stand(alloc: Global, objects: &Objects) -> Result<Stood, AllocError>
     ensures places { IfOk result (λ stood. stood.places.items ≡ equated objects.now) }
     ensures stands { IfOk result (λ stood. (p : Place) → at (objects.now, stood.cells) p ≡ settled_from objects.now p) }
+    ensures rising { OnOk result (AreRising (equated objects.now)) }
     ensures loops { IfOk result (λ stood. AreLoops objects.now (map shown stood.loops.items)) }
     ensures ordered { IfOk result (λ stood. IsSortedByKey (λ found. found.place) ⟦<Place as Ord>⟧.cmp stood.loops.items) }
 {
@@ -143,6 +145,8 @@ fn settle_all(alloc: Global, objects: &mut Objects) -> Result<Settled, AllocErro
     ensures store { OnOk result (objects.new ≡ settled_store objects.old) }
     ensures changed { IfOk result (λ settled. settled.changed.items ≡ changed_in objects.new) }
     ensures faulted { IfOk result (λ settled. settled.faulted.items ≡ faulted_from objects.old) }
+    ensures changed_rise { IfOk result (λ settled. AreRising settled.changed.items) }
+    ensures faulted_rise { IfOk result (λ settled. AreRising (places_faulted settled.faulted.items)) }
     ensures loops { IfOk result (λ settled. AreLoops objects.old (map shown settled.loops.items)) }
     ensures ordered { IfOk result (λ settled. IsSortedByKey (λ found. found.place) ⟦<Place as Ord>⟧.cmp settled.loops.items) }
 {
@@ -188,6 +192,8 @@ impl Engine {
         ensures keeps { OnOk result (KeepsLast (resumed_by writes.now objects.old) objects.new) }
         ensures changed { IfOk result (λ settled. settled.changed.items ≡ changed_in (settled_store (resumed_by writes.now objects.old))) }
         ensures faulted { IfOk result (λ settled. settled.faulted.items ≡ faulted_in (mark_in objects.new) (resumed_by writes.now objects.old) (equated (resumed_by writes.now objects.old))) }
+        ensures changed_rise { IfOk result (λ settled. AreRising settled.changed.items) }
+        ensures faulted_rise { IfOk result (λ settled. AreRising (places_faulted settled.faulted.items)) }
         ensures loops { IfOk result (λ settled. AreLoopsIn (resumed_by writes.now objects.old) objects.new (map shown settled.loops.items)) }
         ensures chains { IfOk result (λ settled. AreChainsIn objects.new (map shown settled.loops.items)) }
         ensures ordered { IfOk result (λ settled. IsSortedByKey (λ found. found.place) ⟦<Place as Ord>⟧.cmp settled.loops.items) }

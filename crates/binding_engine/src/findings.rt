@@ -1,4 +1,6 @@
 ghost use Rattle.std.specs.Prelude.{◌≡◌, filter, IfOk, OnOk};
+ghost use Rattle.object_tree.specs.Changes.{has_changed};
+ghost use Rattle.object_tree.specs.Order.{AreRising};
 ghost use Rattle.object_tree.specs.Reading.{held_at};
 ghost use Rattle.binding_engine.specs.Entries.{marks_in};
 ghost use Rattle.binding_engine.specs.Findings.{fault_number, new_mark, with_fault, faulted_in, changed_in};
@@ -84,16 +86,29 @@ pub(crate) fn faulted(
     Ok(found)
 }
 
-/// The places that show another value than when the last settle ended.
-pub(crate) fn changed(alloc: Global, objects: &Objects) -> Result<Vec<Place>, AllocError>
-    ensures { IfOk result (λ found. found.items ≡ changed_in objects.now) }
+// Those of the places that show another value than when the last settle ended.
+fn changed_among(
+    alloc: Global,
+    objects: &Objects,
+    places: &[Place],
+) -> Result<Vec<Place>, AllocError>
+    ensures { IfOk result (λ found. found.items ≡ filter (λ place. has_changed place objects.now) places.now) }
 {
     let mut found = Vec::new(alloc);
-    let places = objects.places(alloc)?;
-    for place in places.as_slice() {
+    for place in places {
         if objects.has_changed(*place) {
             found.push(*place)?;
         }
     }
+    Ok(found)
+}
+
+/// The places that show another value than when the last settle ended.
+pub(crate) fn changed(alloc: Global, objects: &Objects) -> Result<Vec<Place>, AllocError>
+    ensures changed { IfOk result (λ found. found.items ≡ changed_in objects.now) }
+    ensures rising { IfOk result (λ found. AreRising found.items) }
+{
+    let places = objects.places(alloc)?;
+    let found = changed_among(alloc, objects, places.as_slice())?;
     Ok(found)
 }

@@ -2,6 +2,7 @@ ghost use Rattle.std.specs.Prelude.{◌≡◌, ◌<◌, ℕ, List, [], length, f
 ghost use Rattle.settling.specs.Cells.{clean, value_of};
 ghost use Rattle.settling.specs.Evaluations.{walk};
 ghost use Rattle.expr_eval.specs.Shapes.{meanings};
+ghost use Rattle.object_tree.specs.Order.{AreRising};
 ghost use Rattle.object_tree.specs.Places.{places_of};
 ghost use Rattle.binding_engine.specs.Equations.{shape_of, bound_tree, shown_tree, taken_in, tree_at, equated, has_equation};
 ghost use Rattle.object_tree.specs.Reading.{info_at};
@@ -71,6 +72,7 @@ impl<'a> Present<'a> {
         ensures objects { IfOk result (λ present. present.objects.now ≡ objects.now) }
         ensures places { IfOk result (λ present. present.places.items ≡ equated objects.now) }
         ensures cells { IfOk result (λ present. present.cells ≡ first_entries objects.now (places_of objects.now)) }
+        ensures rising { OnOk result (AreRising (equated objects.now)) }
     {
         let all = objects.places(alloc)?;
         let cells = first_cells(alloc, objects, all.as_slice())?;

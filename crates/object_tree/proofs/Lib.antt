@@ -6,3 +6,4 @@ pub mod Walks
 pub mod Same
 pub mod Resumed
 pub mod Listed
+pub mod Rising

@@ -1,9 +1,7 @@
 -- The places of one slot after another, and of one object after another.
 use Rattle.std.proofs.Common.{zero, suc, ◌≡◌, ◌∙◌, ℕ, ◌+◌, ◌<◌, ◌≤◌, List, [], ◌∷◌, ◌++◌, length, get_or, drop, refl, sym, ap, add-one, append_assoc, arith}
-use Rattle.std.specs.Prelude.{Option, None, Some}
 use Rattle.std.proofs.lemmas.List.{append-nil}
 use Rattle.qml_ast.specs.declared.place.Place.{Place}
-use Rattle.object_tree.specs.declared.instance.Instance.{Instance}
 use Rattle.object_tree.specs.declared.property.Property.{Property}
 use Rattle.object_tree.specs.Places.{places_in_slot, places_from, places_in, places_under}
 use Rattle.object_tree.specs.Reading.{instance_at}

@@ -1,6 +1,6 @@
 -- A value is equal to itself.
-use Rattle.std.proofs.Common.{◌≡◌, ℕ, Bool, true, false, refl, sym, arith, List, [], ◌∷◌}
-use Rattle.std.specs.Prelude.{if◌then◌else◌, Option, None, Some, not, ℤ, pos, negsuc, bytes_eq, ◌==◌}
+use Rattle.std.proofs.Common.{◌≡◌, ℕ, Bool, true, false, refl, arith, List, [], ◌∷◌}
+use Rattle.std.specs.Prelude.{if◌then◌else◌, Option, None, Some, not, ℤ, bytes_eq, ◌==◌}
 use Rattle.std.specs.Ordering.{int_eq}
 use Rattle.std.specs.Cmp.{int_eq_equiv}
 use Rattle.std.proofs.lemmas.Bool.Decides.{nat_tests}

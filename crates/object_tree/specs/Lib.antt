@@ -5,6 +5,7 @@ pub mod Properties
 pub mod Layers
 pub mod Reading
 pub mod Places
+pub mod Order
 pub mod Changes
 pub mod Writing
 pub mod Resuming

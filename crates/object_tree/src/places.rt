@@ -1,4 +1,5 @@
 ghost use Rattle.std.specs.Prelude.{◌≡◌, ◌++◌, IfOk, OnOk};
+ghost use Rattle.object_tree.specs.Order.{AreRising};
 ghost use Rattle.object_tree.specs.Places.{places_in_slot, places_from, places_in, places_of};
 ghost use Rattle.object_tree.specs.Reading.{instance_at};
 
@@ -60,7 +61,8 @@ impl Objects {
     /// The only error is that memory ran out.
     #[tactic(auto, using(crate::proofs::Listed::objects_end), unfolding(crate::specs::Places::places_of))]
     pub fn places(&self, alloc: Global) -> Result<Vec<Place>, AllocError>
-        ensures { IfOk result (λ places. places.items ≡ places_of self.now) }
+        ensures places { IfOk result (λ places. places.items ≡ places_of self.now) }
+        ensures rising { IfOk result (λ places. AreRising places.items) }
     {
         let mut places = Vec::new(alloc);
         let serials = self.objects.serials(alloc)?;

@@ -1,5 +1,10 @@
-use Rattle.std.proofs.Common.{◌∙◌}
+use Rattle.std.proofs.Common.{◌∙◌, List, sym, subst}
+use Rattle.qml_ast.specs.declared.eval_fault.EvalFault.{EvalFault}
+use Rattle.qml_ast.specs.declared.place.Place.{Place}
+use Rattle.object_tree.specs.Order.{AreRising}
+use Rattle.binding_engine.specs.Findings.{places_faulted}
 use Rattle.binding_engine.proofs.Marking.{entries_faulted}
+use Rattle.binding_engine.proofs.Order.{faulted_rises}
 use Rattle.binding_engine.proofs.Written.{cells_settled}
 use Rattle.binding_engine.proofs.engine.settle_all.Goals as goal
 
@@ -12,3 +17,7 @@ pub returns-clause-faulted : goal.returns-clause-faulted
 returns-clause-faulted c =
     c.in_ok-faulted.ensures
     ∙ entries_faulted c.args.objects.now c.in_ok-places.field-0.cells c.as_slice.result.now (c.as_slice.ensures.value ∙ c.in_ok-places.ensures.places) c.in_ok-places.ensures.stands
+
+pub returns-clause-faulted_rise : goal.returns-clause-faulted_rise
+returns-clause-faulted_rise c =
+    subst (λ (fs : List (Place × EvalFault)). AreRising (places_faulted fs)) (sym (returns-clause-faulted c)) (faulted_rises c.args.objects.now c.in_ok-places.ensures.rising)
