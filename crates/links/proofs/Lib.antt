@@ -13,3 +13,4 @@ mod Ending
 mod Moves
 mod Numbers
 mod Calls
+pub mod Lists

@@ -9,7 +9,8 @@ use Rattle.links.specs.Chains.{Chains, cells_in, HasCell, StandsAt, IsLinked, Is
 use Rattle.links.proofs.Places.{slice_get-set_same, slice_get-set_other, slice_get-placed_same, slice_get-placed_other}
 use Rattle.scene.specs.Dirty.{marked, without}
 use Rattle.scene.specs.Marking.{Marking, owner, owner_in, dirty_in, IsMarking, IsLoosened}
-use Rattle.scene.proofs.Lists.{list_any_there, list_any_absent, filter_absent, filter_there, map-remove, map_agree, from_mapped}
+use Rattle.links.proofs.Lists.{without_absent, without_there}
+use Rattle.scene.proofs.Lists.{list_any_there, list_any_absent, map-remove, map_agree, from_mapped}
 
 -- a cell with an owner is used, and has the owner's serial
 owner_facts : (used : Option Bool) (serial : Option ℕ) (s : ℕ) → cond (unwrap_or used false) serial None ≡ Some s → (used ≡ Some true) × (serial ≡ Some s)
@@ -230,7 +231,7 @@ module _ {links : Chains} {list : ℕ} {serials : List ℕ} (holds : IsMarking l
         dirty_is = λ s own.
             ap (dirty_in serials) after.cells_are
             ∙ (map-remove serial_of cells place
-            ∙ sym (filter_there dirty place s (place_of place cell s own at) (λ j f. dirty_apart.place j place s f (place_of place cell s own at))));
+            ∙ sym (without_there dirty place s (place_of place cell s own at) (λ j f. dirty_apart.place j place s f (place_of place cell s own at))));
       }
 
   unmark_absent : (new : Chains) (cell : ℕ) → IsLoose links cell → new ≡ links → Unmarks new cell
@@ -239,7 +240,7 @@ module _ {links : Chains} {list : ℕ} {serials : List ℕ} (holds : IsMarking l
       (record {
         marking = holds;
         same_cells = refl;
-        dirty_is = λ s own. sym (filter_absent dirty s (absent cell s own loose));
+        dirty_is = λ s own. sym (without_absent dirty s (absent cell s own loose));
       })
 
   pub unmark : (new : Chains) (cell : ℕ) → IsLoosened links new cell → AreDisjoint new → Unmarks new cell

@@ -11,7 +11,8 @@ use Rattle.scene.specs.Dirty.{marked, without}
 use Rattle.scene.specs.Marking.{Marking, owner}
 use Rattle.scene.specs.Picture.{Item, StoredItems}
 use Rattle.scene.specs.Holding.{IsHeld}
-use Rattle.scene.proofs.Lists.{filter_absent, left_there, marked_there}
+use Rattle.links.proofs.Lists.{without_absent, left}
+use Rattle.scene.proofs.Lists.{marked_there}
 use Rattle.scene.proofs.Maps.{inserted_here, inserted_apart, removed_here, removed_apart}
 
 is_none : {A : Type 0} (o : Option A) → is_some o ≡ false → o ≡ None
@@ -77,7 +78,7 @@ module _ {stored : StoredItems} {marks : Marking} {released capacity : ℕ} (hel
   held_unmarked after serial e =
       held_marks after capacity (omega arith) (λ cell. ap (λ (m : Marking). owner m cell) e)
       (λ place other at.
-      let found = left_there marks.dirty serial place other (ap (λ (m : Marking). slice_get m.dirty place) (sym e) ∙ at) in
+      let found = left marks.dirty serial place other (ap (λ (m : Marking). slice_get m.dirty place) (sym e) ∙ at) in
       held.known found.0 other found.1.0)
 
   -- an item that is there has changed
@@ -206,7 +207,7 @@ module _ {stored : StoredItems} {marks : Marking} {released capacity : ℕ} (hel
             (λ (ne : other ≢ serial). ap is_some (item_else other ne) ∙ (held.alike other ∙ ap is_some (sym (cell_else other ne))))
             (cases_eq other serial);
         known = λ place other at.
-            let found = left_there marks.dirty serial place other (ap (λ xs. slice_get xs place) (sym dirty) ∙ at) in
+            let found = left marks.dirty serial place other (ap (λ xs. slice_get xs place) (sym dirty) ∙ at) in
             ap is_some (item_else other found.1.1) ∙ held.known found.0 other found.1.0;
         fits = λ other it e.
             ⊎_elim
@@ -227,7 +228,7 @@ module _ {stored : StoredItems} {marks : Marking} {released capacity : ℕ} (hel
       → IsHeld after now len room × (now.dirty ≡ marks.dirty)
   held_again after between now len room serial cell same_items same_len none more owns vacant dirty freed left =
       let own_at : owner between cell ≡ Some serial = owns cell ∙ ap (λ b. cond b (Some serial) (owner marks cell)) (eq-eqb cell cell refl) in
-      let same_dirty : now.dirty ≡ marks.dirty = left serial own_at ∙ (ap (without serial) dirty ∙ filter_absent marks.dirty serial (λ place. not_dirty serial place none)) in (
+      let same_dirty : now.dirty ≡ marks.dirty = left serial own_at ∙ (ap (without serial) dirty ∙ without_absent marks.dirty serial (λ place. not_dirty serial place none)) in (
         subst (λ (st : StoredItems). IsHeld st now len room) (sym same_items) (subst (λ n. IsHeld stored now n room) (sym same_len) (
             held_marks now room more
             (λ other. freed other ∙ (ap (λ o. cond (eqb other cell) None o) (owns other)

@@ -1,9 +1,8 @@
 -- Lists of items: what is among them, and what is left without one.
-use Rattle.std.proofs.Common.{◌≡◌, ◌≢◌, ◌⊎◌, ⊎_elim, inl, inr, ℕ, zero, suc, Bool, true, false, cond, not, ◌||◌, eqb, List, [], ◌∷◌, ◌++◌, map, Option, Some, None, option_map, refl, ap, sym, ◌∙◌, arith, eq-eqb}
+use Rattle.std.proofs.Common.{◌≡◌, ◌≢◌, ◌⊎◌, ⊎_elim, inl, inr, ℕ, zero, suc, Bool, true, false, cond, ◌||◌, eqb, List, [], ◌∷◌, ◌++◌, map, Option, Some, None, option_map, refl, ap, sym, ◌∙◌, arith, eq-eqb}
 use Rattle.std.specs.Prelude.{IfSome}
-use Rattle.std.specs.List.{slice_get, remove, list_any, filter}
+use Rattle.std.specs.List.{slice_get, remove, list_any}
 use Rattle.std.proofs.lemmas.Option.{none-some, same_Some}
-use Rattle.std.proofs.lemmas.Bool.{cases_eq}
 use Rattle.std.proofs.lemmas.Bool.Decides.{nat_tests}
 
 or_right : (a b : Bool) → b ≡ true → (a || b) ≡ true
@@ -24,32 +23,11 @@ list_any_absent [] s absent = refl
 list_any_absent (x ∷ xs) s absent =
     ap (λ b. b || list_any (λ y. eqb y s) xs) (other x s (λ e. absent zero (ap Some e))) ∙ list_any_absent xs s (λ place. absent (suc place))
 
--- the filter takes nothing away, or one
-pub filter_absent : (xs : List ℕ) (s : ℕ) → ((place : ℕ) → slice_get xs place ≢ Some s) → filter (λ x. not (eqb x s)) xs ≡ xs
-filter_absent [] s absent = refl
-filter_absent (x ∷ xs) s absent =
-    ap (λ b. cond (not b) (x ∷ filter (λ y. not (eqb y s)) xs) (filter (λ y. not (eqb y s)) xs)) (other x s (λ e. absent zero (ap Some e)))
-    ∙ ap (λ ys. x ∷ ys) (filter_absent xs s (λ place. absent (suc place)))
-
-pub filter_there : (xs : List ℕ) (place s : ℕ) → slice_get xs place ≡ Some s → ((j : ℕ) → slice_get xs j ≡ Some s → j ≡ place) → filter (λ x. not (eqb x s)) xs ≡ remove xs place
-filter_there [] place s e only = absurd (none-some s e)
-filter_there (x ∷ xs) zero s e only =
-    ap (λ b. cond (not b) (x ∷ filter (λ y. not (eqb y s)) xs) (filter (λ y. not (eqb y s)) xs)) (eq-eqb x s (same_Some x s e))
-    ∙ filter_absent xs s (λ j f. let no : suc j ≡ zero = only (suc j) f in absurd (omega arith))
-filter_there (x ∷ xs) (suc place) s e only =
-    ap (λ b. cond (not b) (x ∷ filter (λ y. not (eqb y s)) xs) (filter (λ y. not (eqb y s)) xs)) (other x s (λ same. let no : zero ≡ suc place = only zero (ap Some same) in absurd (omega arith)))
-    ∙ ap (λ ys. x ∷ ys) (filter_there xs place s e (λ j f. let next : suc j ≡ suc place = only (suc j) f in omega arith))
-
 pub map-remove : {A B : Type 0} (f : A → B) (xs : List A) (place : ℕ) → map f (remove xs place) ≡ remove (map f xs) place
 map-remove f [] zero = refl
 map-remove f [] (suc place) = refl
 map-remove f (x ∷ xs) zero = refl
 map-remove f (x ∷ xs) (suc place) = ap (λ ys. f x ∷ ys) (map-remove f xs place)
-
-left_first : (x : ℕ) (xs : List ℕ) (s place t : ℕ) → x ≢ s → slice_get (x ∷ filter (λ y. not (eqb y s)) xs) place ≡ Some t
-    → ((p : ℕ) → slice_get (filter (λ y. not (eqb y s)) xs) p ≡ Some t → (j : ℕ) × ((slice_get xs j ≡ Some t) × (t ≢ s))) → (j : ℕ) × ((slice_get (x ∷ xs) j ≡ Some t) × (t ≢ s))
-left_first x xs s zero t ne e rest = (zero, (e, λ same. ne (same_Some x t e ∙ same)))
-left_first x xs s (suc place) t ne e rest = let found = rest place e in (suc found.0, found.1)
 
 pushed_there : (xs : List ℕ) (s place t : ℕ) → slice_get (xs ++ s ∷ []) place ≡ Some t → ((j : ℕ) × (slice_get xs j ≡ Some t)) ⊎ (t ≡ s)
 pushed_there [] s zero t e = inr (sym (same_Some s t e))
@@ -68,19 +46,6 @@ map_agree f g (x ∷ xs) same =
 pub from_mapped : (f : ℕ → ℕ) (o : Option ℕ) (s : ℕ) → option_map f o ≡ Some s → (x : ℕ) × ((o ≡ Some x) × (f x ≡ s))
 from_mapped f None s e = absurd (none-some s e)
 from_mapped f (Some x) s e = (x, (refl, same_Some (f x) s e))
-
--- each item that is left was there, and isn't the one that was taken away
-pub left_there : (xs : List ℕ) (s place t : ℕ) → slice_get (filter (λ x. not (eqb x s)) xs) place ≡ Some t → (j : ℕ) × ((slice_get xs j ≡ Some t) × (t ≢ s))
-left_there [] s place t e = absurd (none-some t e)
-left_there (x ∷ xs) s place t e =
-    ⊎_elim
-    (λ (same : x ≡ s).
-    let rest = left_there xs s place t (ap (λ b. slice_get (cond (not b) (x ∷ filter (λ y. not (eqb y s)) xs) (filter (λ y. not (eqb y s)) xs)) place) (sym (eq-eqb x s same)) ∙ e) in
-    (suc rest.0, rest.1))
-    (λ (ne : x ≢ s).
-    left_first x xs s place t ne (ap (λ b. slice_get (cond (not b) (x ∷ filter (λ y. not (eqb y s)) xs) (filter (λ y. not (eqb y s)) xs)) place) (sym (other x s ne)) ∙ e)
-    (λ p f. left_there xs s p t f))
-    (cases_eq x s)
 
 -- a marked item is among the others, or the one
 pub marked_there : (xs : List ℕ) (s place t : ℕ) (b : Bool) → slice_get (cond b xs (xs ++ s ∷ [])) place ≡ Some t → ((j : ℕ) × (slice_get xs j ≡ Some t)) ⊎ (t ≡ s)

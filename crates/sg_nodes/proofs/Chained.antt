@@ -9,7 +9,8 @@ use Rattle.links.specs.Chains.{Chains, cells_in, HasList, HasCell, StandsAt, IsL
 use Rattle.links.proofs.Places.{slice_get-set_same, slice_get-set_other}
 use Rattle.sg_nodes.specs.Forest.{without, placed_before, moved}
 use Rattle.sg_nodes.specs.Numbers.{IsFull, KeepsNumbers}
-use Rattle.sg_nodes.proofs.Slots.{without_absent, without_there, kept, insert-before}
+use Rattle.links.proofs.Lists.{without_absent, without_there, kept}
+use Rattle.sg_nodes.proofs.Slots.{insert-before}
 
 module _ (links new : Chains) (list : ℕ) (xs : List ℕ) (within : list < length links.lists) (after : new ≡ record links { lists = set links.lists list (Some xs) }) where
   lists_are : new.lists ≡ set links.lists list (Some xs)

@@ -5,7 +5,8 @@ use Rattle.std.proofs.lemmas.Option.{none-some, same_Some}
 use Rattle.std.proofs.lemmas.Bool.{cases_eq, ne_eqb}
 use Rattle.sg_nodes.specs.declared.node.Node.{Node}
 use Rattle.sg_nodes.specs.Forest.{Forest, IsLive, IsChild, Steps, IsFrom, IsForest, put, without, placed_before, moved, root_without, freed}
-use Rattle.sg_nodes.proofs.Slots.{left, left_once}
+use Rattle.links.proofs.Lists.{left}
+use Rattle.sg_nodes.proofs.Slots.{left_once}
 use Rattle.sg_nodes.proofs.Placing.{placed_there, placed_once}
 
 -- two that agree at each slot are one

@@ -2,13 +2,14 @@
 use Rattle.std.proofs.Common.{◌≡◌, ◌≢◌, ℕ, ◌+◌, ◌<◌, List, [], ◌∷◌, ◌++◌, take, drop, length, get_or, Option, Some, refl, ap, sym, ◌∙◌, subst, arith}
 use Rattle.std.specs.FinMap as map
 use Rattle.std.proofs.lemmas.List.{take_more, drop_more, take-append-drop}
+use Rattle.links.proofs.Lists.{skips}
 use Rattle.scene.specs.Dirty.{without}
 use Rattle.scene.specs.Picture.{Item, Items, Picture}
 use Rattle.sg_sync.specs.declared.synced.Synced.{Synced}
 use Rattle.sg_sync.specs.Own.{IsIn}
 use Rattle.sg_sync.specs.Linking.{Distinct}
 use Rattle.sg_sync.specs.Counting.{total}
-use Rattle.sg_sync.proofs.Members.{in_left, in_right, without_absent, distinct_right, distinct_apart, skips}
+use Rattle.sg_sync.proofs.Members.{in_left, in_right, without_absent, distinct_right, distinct_apart}
 
 total_push : (count : Option Item → ℕ) (items : Items) (xs : List ℕ) (serial : ℕ) → total count items (xs ++ serial ∷ []) ≡ total count items xs + count (map.get items serial)
 total_push count items [] serial = omega arith

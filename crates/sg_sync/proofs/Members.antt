@@ -1,9 +1,10 @@
 -- What is in lists.
-use Rattle.std.proofs.Common.{◌≡◌, ◌≢◌, ◌==◌, ◌⊎◌, ⊎_elim, inl, inr, ℕ, zero, suc, cond, not, List, [], ◌∷◌, ◌++◌, map, Some, refl, ap, sym, ◌∙◌, arith, eq-eqb, append_assoc, append-nil, subst}
+use Rattle.std.proofs.Common.{◌≡◌, ◌≢◌, ◌==◌, ◌⊎◌, ⊎_elim, inl, inr, ℕ, zero, suc, not, List, [], ◌∷◌, ◌++◌, map, Some, refl, ap, sym, ◌∙◌, arith, append_assoc, append-nil, subst}
 use Rattle.std.specs.List.{slice_get, flat_map}
 use Rattle.std.proofs.lemmas.Option.{none-some, same_Some}
-use Rattle.std.proofs.lemmas.Bool.{cases_eq, ne_eqb}
+use Rattle.std.proofs.lemmas.Bool.{cases_eq}
 use Rattle.std.proofs.lemmas.List.Elements.{filter-append}
+use Rattle.links.proofs.Lists.{left, kept, without_absent as nothing_lost}
 use Rattle.sg_nodes.specs.Forest.{without}
 use Rattle.sg_sync.specs.Own.{IsIn}
 use Rattle.sg_sync.specs.Linking.{HasSegment, Distinct}
@@ -79,40 +80,14 @@ in_or_not (y ∷ xs) x =
     (cases_eq y x)
 
 -- what a list is without a number
-pub skips : (x s : ℕ) (xs : List ℕ) → x ≡ s → without s (x ∷ xs) ≡ without s xs
-skips x s xs e = ap (λ b. cond (not b) (x ∷ without s xs) (without s xs)) (eq-eqb x s e)
-
-keeps : (x s : ℕ) (xs : List ℕ) → x ≢ s → without s (x ∷ xs) ≡ x ∷ without s xs
-keeps x s xs ne = ap (λ b. cond (not b) (x ∷ without s xs) (without s xs)) (ne_eqb x s ne)
-
 pub without_absent : (xs : List ℕ) (s : ℕ) → ¬ IsIn xs s → without s xs ≡ xs
-without_absent [] s absent = refl
-without_absent (x ∷ xs) s absent =
-    keeps x s xs (λ e. absent (zero, ap Some e)) ∙ ap (λ ys. x ∷ ys) (without_absent xs s (λ is. absent (in_rest x xs s is)))
+without_absent xs s absent = nothing_lost xs s (λ place e. absent (place, e))
 
 pub in_without : (xs : List ℕ) (s x : ℕ) → IsIn (without s xs) x → IsIn xs x
-in_without [] s x is = absurd (in_none x is)
-in_without (y ∷ xs) s x is =
-    ⊎_elim
-    (λ (same : y ≡ s). in_rest y xs x (in_without xs s x (subst (λ ys. IsIn ys x) (skips y s xs same) is)))
-    (λ (ne : y ≢ s).
-    ⊎_elim (λ (e : y ≡ x). (zero, ap Some e)) (λ (rest : IsIn (without s xs) x). in_rest y xs x (in_without xs s x rest))
-    (first_or_rest y (without s xs) x (subst (λ ys. IsIn ys x) (keeps y s xs ne) is)))
-    (cases_eq y s)
+in_without xs s x is = let there = left xs s is.0 x is.1 in (there.0, there.1.0)
 
 pub in_without_other : (xs : List ℕ) (s x : ℕ) → IsIn xs x → x ≢ s → IsIn (without s xs) x
-in_without_other [] s x is other = absurd (in_none x is)
-in_without_other (y ∷ xs) s x is other =
-    ⊎_elim
-    (λ (e : y ≡ x).
-    subst (λ ys. IsIn ys x) (sym (keeps y s xs (λ same. other (sym e ∙ same)))) (zero, ap Some e))
-    (λ (rest : IsIn xs x).
-    let there = in_without_other xs s x rest other in
-    ⊎_elim
-    (λ (same : y ≡ s). subst (λ ys. IsIn ys x) (sym (skips y s xs same)) there)
-    (λ (ne : y ≢ s). subst (λ ys. IsIn ys x) (sym (keeps y s xs ne)) (in_rest y (without s xs) x there))
-    (cases_eq y s))
-    (first_or_rest y xs x is)
+in_without_other xs s x is other = kept xs s is.0 x is.1 other
 
 -- a segment stays where what leaves the list isn't in it
 pub segment_without : (xs segment : List ℕ) (s : ℕ) → HasSegment xs segment → ¬ IsIn segment s → HasSegment (without s xs) segment

@@ -1,11 +1,12 @@
 -- An item that is taken away.
-use Rattle.std.proofs.Common.{◌≡◌, ◌≢◌, ◌⊎◌, ⊎_elim, inl, inr, ℕ, zero, suc, ◌+◌, ◌≤◌, not, cond, length, List, [], ◌∷◌, ◌++◌, Some, None, IsSome, is_some, refl, ap, sym, ◌∙◌, subst, arith, eq-eqb}
+use Rattle.std.proofs.Common.{◌≡◌, ◌≢◌, ◌⊎◌, ⊎_elim, inl, inr, ℕ, zero, suc, ◌+◌, ◌≤◌, cond, length, List, [], ◌∷◌, ◌++◌, Some, None, IsSome, is_some, refl, ap, sym, ◌∙◌, subst, arith, eq-eqb}
 use Rattle.std.specs.List.{slice_get}
 use Rattle.std.specs.Cmp.{nat_cmp_total, unsigned_tied}
 use Rattle.std.specs.FinMap as map
 use Rattle.std.proofs.lemmas.Option.{none-some, same_Some, slice_get_within}
 use Rattle.std.proofs.lemmas.Bool.{cases_eq, ne_eqb}
 use Rattle.links.specs.declared.node_key.NodeKey.{NodeKey}
+use Rattle.links.proofs.Lists.{kept}
 use Rattle.scene.specs.declared.paint.Paint.{Paint}
 use Rattle.scene.specs.Dirty.{marked, without}
 use Rattle.scene.specs.Keys.{keys_of}
@@ -37,18 +38,6 @@ in_one (x ∷ xs) ys (suc i) key e = let rest = in_one xs ys i key e in (suc res
 in_other : (xs ys : List NodeKey) (i : ℕ) (key : NodeKey) → slice_get ys i ≡ Some key → (j : ℕ) × (slice_get (xs ++ ys) j ≡ Some key)
 in_other [] ys i key e = (i, e)
 in_other (x ∷ xs) ys i key e = let rest = in_other xs ys i key e in (suc rest.0, rest.1)
-
--- another one stays dirty
-still_there : (xs : List ℕ) (s t place : ℕ) → slice_get xs place ≡ Some t → t ≢ s → IsIn (without s xs) t
-still_there [] s t place e ne = absurd (none-some t e)
-still_there (x ∷ xs) s t zero e ne =
-    (zero, ap (λ b. slice_get (cond (not b) (x ∷ without s xs) (without s xs)) 0) (ne_eqb x s (λ same. ne (sym (same_Some x t e) ∙ same))) ∙ e)
-still_there (x ∷ xs) s t (suc place) e ne =
-    let rest = still_there xs s t place e ne in
-    ⊎_elim
-    (λ (same : x ≡ s). (rest.0, ap (λ b. slice_get (cond (not b) (x ∷ without s xs) (without s xs)) rest.0) (eq-eqb x s same) ∙ rest.1))
-    (λ (other : x ≢ s). (suc rest.0, ap (λ b. slice_get (cond (not b) (x ∷ without s xs) (without s xs)) (suc rest.0)) (ne_eqb x s other) ∙ rest.1))
-    (cases_eq x s)
 
 module _ {f : Forest} {p : Picture} {deepest : ℕ} (s : IsStaged f p deepest) (agrees : (g : Forest) (old new : Picture) → Agree g old → IsChanged old new → Agree g new)
     (parent child : ℕ) (l : IsLastLeaf p.items parent child) (less : Paint) (less_is : less.children ≡ l.others) (fits : less.under ≤ length less.children) where
@@ -228,7 +217,7 @@ module _ {f : Forest} {p : Picture} {deepest : ℕ} (s : IsStaged f p deepest) (
         ⊎_elim (λ (same : t ≡ parent). absurd (still (subst (IsIn (marked parent (without child p.dirty))) (sym same) (is_marked parent (without child p.dirty)))))
         (λ (ne : t ≢ parent).
         let other = not_child t (ap is_some g) in
-        (λ dirty. still (still_marked parent t (without child p.dirty) (still_there p.dirty child t dirty.0 dirty.1 other)), (new, (sym (other_is t ne other) ∙ g, refl))))
+        (λ dirty. still (still_marked parent t (without child p.dirty) (kept p.dirty child dirty.0 t dirty.1 other)), (new, (sym (other_is t ne other) ∙ g, refl))))
         (cases_eq t parent);
   }
 
