@@ -69,7 +69,7 @@ fn update(nodes: &mut Nodes, scene: &mut Scene, serials: &[u64]) -> Synced
 }
 
 /// Brings nodes in step with a scene with which they agree, by its dirty items and the keys that it
-/// released. Then they stand for it, nothing is dirty, and no key waits to be freed. What the items are
+/// released (Qt Quick Scene Graph, Threaded Render Loop: the step in which changed items are synchronised). Then they stand for it, nothing is dirty, and no key waits to be freed. What the items are
 /// painted as and the scene's size stay, and so do the keys and nodes of items that weren't dirty.
 ///
 /// A dirty item keeps its group, and its rectangles where it has as many as before; otherwise these are
