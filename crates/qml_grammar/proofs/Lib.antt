@@ -1,5 +1,6 @@
 mod FaultCases
 pub mod LinedForms
+mod Lengths
 mod Looking
 pub mod MemberForms
 pub mod Opened

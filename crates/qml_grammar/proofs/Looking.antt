@@ -1,5 +1,5 @@
 -- Looking for the first of a list's items that passes a test, from the front on.
-use Rattle.std.proofs.Common.{add-one, ◌≡◌, ℕ, zero, suc, ◌+◌, ◌<◌, Bool, true, false, List, [], ◌∷◌, length, take, slice_index_or, find, None, Some, arith}
+use Rattle.std.proofs.Common.{add-one, ◌≡◌, ℕ, zero, suc, ◌+◌, ◌<◌, Bool, true, false, List, [], ◌∷◌, length, take, slice_index_or, find, filter, None, Some, refl, arith}
 
 -- where none before it passes the test, an item that does is found
 pub found_at : {X : Type 0} (p : X → Bool) (xs : List X) (i : ℕ) (d : X) → find p (take i xs) ≡ None → i < length xs → p (slice_index_or xs i d) ≡ true → find p xs ≡ Some (slice_index_or xs i d)
@@ -16,3 +16,8 @@ none_more p (y ∷ ys) (suc i) d none within fails = grind (arith, none_more p y
 -- likewise, as a loop counts
 pub none_next : {X : Type 0} (p : X → Bool) (xs : List X) (i : ℕ) (d : X) → find p (take i xs) ≡ None → i < length xs → p (slice_index_or xs i d) ≡ false → find p (take (i + 1) xs) ≡ None
 none_next p xs i d none within fails = rw (add-one i) (none_more p xs i d none within fails)
+
+-- where what passes one test passes another, the first that passes is found among those that pass the other
+pub find_within : {X : Type 0} (p q : X → Bool) (xs : List X) → ((x : X) → p x ≡ true → q x ≡ true) → find p (filter q xs) ≡ find p xs
+find_within p q [] each = refl
+find_within p q (y ∷ ys) each = grind (arith, each y, find_within p q ys each)

@@ -1,5 +1,5 @@
 -- The names that have a meaning of their own in some places.
-use Rattle.std.specs.Prelude.{ℕ, ◌==◌, ◌||◌, not, Bool, true, false, List, [], ◌∷◌, Option, codes, bytes_eq, find}
+use Rattle.std.specs.Prelude.{ℕ, ◌==◌, ◌||◌, not, Bool, true, false, List, [], ◌∷◌, Option, codes, bytes_eq, nat_eq, length, filter, find}
 use Rattle.qml_grammar.specs.declared.word.Word.{Word}
 use Rattle.qml_grammar.specs.declared.word.Word.TheVariants.{Var, Let, Const, If, Else, While, For, Return, True, False, Null, Undefined, Function, Switch, Do, Break, Continue, Try, Throw, New, Delete, TypeOf, InstanceOf, In, Void, With, Class, This, Id, Property, ReadOnly, Signal, Default, Enum, Required, Alias, On, Import, As}
 
@@ -133,6 +133,10 @@ is_ordinary w = not (is_keyword w || is_unsupported w)
 
 abbrev pub all_words : List Word
 all_words = Var ∷ Let ∷ Const ∷ If ∷ Else ∷ While ∷ For ∷ Return ∷ True ∷ False ∷ Null ∷ Undefined ∷ Function ∷ Switch ∷ Do ∷ Break ∷ Continue ∷ Try ∷ Throw ∷ New ∷ Delete ∷ TypeOf ∷ InstanceOf ∷ In ∷ Void ∷ With ∷ Class ∷ This ∷ Id ∷ Property ∷ ReadOnly ∷ Signal ∷ Default ∷ Enum ∷ Required ∷ Alias ∷ On ∷ Import ∷ As ∷ []
+
+-- the words of so many bytes
+unfoldable pub words_of_length : ℕ → List Word
+words_of_length n = filter (λ w. nat_eq (length (word_text w)) n) all_words
 
 -- the word that is written so
 unfoldable pub word_of : List ℕ → Option Word

@@ -85,7 +85,7 @@ pub enum Word {
 }
 
 impl Word {
-    ghost use Rattle.qml_grammar.specs.Words.{word_text, word_of};
+    ghost use Rattle.qml_grammar.specs.Words.{word_text, words_of_length, word_of};
 
     /// Each word once.
     pub const ALL: [Word; 39] = [
@@ -182,11 +182,67 @@ impl Word {
     pub fn of_name(name: &str) -> Option<Word>
         ensures { result ≡ word_of name.now }
     {
-        for word in &Word::ALL {
+        for word in Word::of_length(name.len()) {
             if word.as_str() == name {
                 return Some(*word);
             }
         }
         None
+    }
+
+    /// The words of so many bytes, in the order of `ALL`: all that a name of that length can be.
+    fn of_length(length: usize) -> &'static [Word]
+        ensures { result.now ≡ words_of_length length }
+    {
+        if length == 2 {
+            &[Word::If, Word::Do, Word::In, Word::Id, Word::On, Word::As]
+        } else if length == 3 {
+            &[Word::Var, Word::Let, Word::For, Word::Try, Word::New]
+        } else if length == 4 {
+            &[
+                Word::Else,
+                Word::True,
+                Word::Null,
+                Word::Void,
+                Word::With,
+                Word::This,
+                Word::Enum,
+            ]
+        } else if length == 5 {
+            &[
+                Word::Const,
+                Word::While,
+                Word::False,
+                Word::Break,
+                Word::Throw,
+                Word::Class,
+                Word::Alias,
+            ]
+        } else if length == 6 {
+            &[
+                Word::Return,
+                Word::Switch,
+                Word::Delete,
+                Word::TypeOf,
+                Word::Signal,
+                Word::Import,
+            ]
+        } else if length == 7 {
+            &[Word::Default]
+        } else if length == 8 {
+            &[
+                Word::Function,
+                Word::Continue,
+                Word::Property,
+                Word::ReadOnly,
+                Word::Required,
+            ]
+        } else if length == 9 {
+            &[Word::Undefined]
+        } else if length == 10 {
+            &[Word::InstanceOf]
+        } else {
+            &[]
+        }
     }
 }
