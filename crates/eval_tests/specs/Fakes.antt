@@ -1,8 +1,8 @@
 -- What the names of the store stand for.
-use Rattle.std.specs.Prelude.{ℕ, nat_lt, Bool, List, [], ◌∷◌, Option, None, Some, option_map, unwrap_or, codes, bytes_eq, slice_get, if◌then◌else◌}
+use Rattle.std.specs.Prelude.{ℕ, nat_lt, ◌==◌, Bool, List, [], ◌∷◌, Option, None, Some, option_map, unwrap_or, codes, bytes_eq, slice_get, if◌then◌else◌}
 use Rattle.qml_ast.specs.declared.place.Place.{Place}
 use Rattle.qml_ast.specs.declared.place.Side.TheVariants.{Shown}
-use Rattle.expr_eval.specs.Meanings.{Meanings, Function}
+use Rattle.expr_eval.specs.Meanings.{Meanings, Function, Arities}
 use Rattle.expr_eval.specs.Senses.{entry_named}
 use Rattle.expr_eval.specs.declared.found.Found.{Found}
 use Rattle.expr_eval.specs.declared.found.Found.TheVariants as found
@@ -19,7 +19,7 @@ abbrev pub places : List (List ℕ × Found)
 places = (codes "n", at 0) ∷ (codes "s", at 1) ∷ (codes "b", at 2) ∷ (codes "col", at 3) ∷ (codes "o", at 4) ∷ (codes "nul", at 5) ∷ (codes "line", at 6) ∷ (codes "later", at 7) ∷ []
 
 abbrev pub things : List (List ℕ × Found)
-things = (codes "other", found.Object 5) ∷ (codes "anchors", found.Group 5 Anchors) ∷ (codes "finished", found.Signal 5 0) ∷ (codes "twice", found.Method 5 0) ∷ (codes "down", found.Method 5 1) ∷ (codes "free", found.Method 5 2) ∷ (codes "start", found.Method 5 9) ∷ (codes "Qt", found.Global Qt) ∷ (codes "Math", found.Global Math) ∷ (codes "console", found.Global Console) ∷ (codes "Loader", found.Global Loader) ∷ []
+things = (codes "other", found.Object 5) ∷ (codes "anchors", found.Group 5 Anchors) ∷ (codes "finished", found.Signal 5 0) ∷ (codes "twice", found.Method 5 0) ∷ (codes "down", found.Method 5 1) ∷ (codes "free", found.Method 5 2) ∷ (codes "start", found.Method 5 9) ∷ (codes "lost", found.Method 5 7) ∷ (codes "muted", found.Signal 5 1) ∷ (codes "Qt", found.Global Qt) ∷ (codes "Math", found.Global Math) ∷ (codes "console", found.Global Console) ∷ (codes "Loader", found.Global Loader) ∷ []
 
 abbrev pub member_named : Option GroupName → List ℕ → Found
 member_named None name = unwrap_or (entry_named name places) found.None
@@ -38,3 +38,10 @@ fake_means fake = record {
 
 abbrev pub fake_clean : Fake → Place → Bool
 fake_clean fake place = nat_lt place.slot fake.clean
+
+-- `twice`, `down` and `free` take one argument, `start` none, and `finished` two
+abbrev pub fake_arities : Arities
+fake_arities = record {
+  method = λ of method. if nat_lt method 3 then Some 1 else if method == 9 then Some 0 else None;
+  signal = λ of signal. if signal == 0 then Some 2 else None;
+}

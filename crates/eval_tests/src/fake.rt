@@ -3,7 +3,7 @@ ghost use Rattle.std.specs.Prelude.{◌≡◌};
 ghost use Rattle.expr_eval.specs.Senses.{entry_named};
 ghost use Rattle.eval_tests.specs.Fakes.{places, things};
 
-use expr_eval::{Found, Frame, GlobalName, GroupName, Method, Reader};
+use expr_eval::{Callees, Found, Frame, GlobalName, GroupName, Method, Reader};
 use qml_ast::{Expr, Name, Place, Side, Value};
 use shared_value::Shared;
 use sqlite_items::Items;
@@ -71,6 +71,26 @@ impl Reader for Fake {
     }
 }
 
+impl Callees for Fake {
+    ghost use Rattle.eval_tests.specs.Fakes.{fake_arities};
+
+    ghost arities = { λ fake. fake_arities };
+
+    fn method_arity(&self, _of: u64, method: u32) -> Option<usize> {
+        if method < 3 {
+            Some(1)
+        } else if method == 9 {
+            Some(0)
+        } else {
+            None
+        }
+    }
+
+    fn signal_arity(&self, _of: u64, signal: u32) -> Option<usize> {
+        if signal == 0 { Some(2) } else { None }
+    }
+}
+
 fn at(slot: u32) -> Found
     ensures { result ≡ Found.Place (record { serial = 5; slot = slot; side = Side.Shown }) }
 {
@@ -109,6 +129,8 @@ fn thing_named(name: &str) -> Option<Found>
         "down" => Some(Found::Method(5, 1)),
         "free" => Some(Found::Method(5, 2)),
         "start" => Some(Found::Method(5, 9)),
+        "lost" => Some(Found::Method(5, 7)),
+        "muted" => Some(Found::Signal(5, 1)),
         "Qt" => Some(Found::Global(GlobalName::Qt)),
         "Math" => Some(Found::Global(GlobalName::Math)),
         "console" => Some(Found::Global(GlobalName::Console)),

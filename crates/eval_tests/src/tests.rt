@@ -1,5 +1,5 @@
 use crate::fake::{Fake, Returned};
-use expr_eval::{Eval, Frame, Local, Locals, Trace, eval};
+use expr_eval::{Aim, Called, Eval, Frame, Local, Locals, Trace, aim, call, eval};
 use qml_ast::{
     BinOp, Document, Edge, EvalFault, Expr, Init, LineRef, Member, Name, Text, UnOp, Value,
 };
@@ -179,6 +179,90 @@ const ROWS: &[(&str, &str)] = &[
     ("n / 0 + later", "zero divisor [0]"),
 ];
 
+/// Where a target stands, and behind a `:` the slots that are read on the way.
+const TARGETS: &[(&str, &str)] = &[
+    ("n", "place 0"),
+    ("later", "place 7"),
+    ("o.n", "place 0 [4]"),
+    ("o.later", "place 7 [4]"),
+    ("o.o.s", "place 1 [4]"),
+    ("other.s", "place 1"),
+    ("anchors.fill", "place 4"),
+    ("nope", "unknown name"),
+    ("o.nope", "unknown name [4]"),
+    ("anchors.nope", "unknown name"),
+    ("nul.x", "member of null [5]"),
+    ("null.x", "member of null"),
+    ("n.x", "wrong kind [0]"),
+    ("later.x", "needs 7"),
+    ("7", "wrong kind"),
+    ("n + later", "needs 7 [0]"),
+    ("n + 1", "wrong kind [0]"),
+    ("other", "wrong kind"),
+    ("anchors", "wrong kind"),
+    ("twice", "wrong kind"),
+    ("twice(4)", "wrong kind"),
+    ("finished", "wrong kind"),
+    ("Math", "wrong kind"),
+    ("Math.min", "wrong kind"),
+    ("mouse", "wrong kind"),
+    ("mouse.x", "wrong kind"),
+    ("mouse.z", "unknown name"),
+];
+
+/// What a call as a whole statement calls, and behind a `:` the slots that are read.
+const CALLS: &[(&str, &str)] = &[
+    ("twice(4)", "method 0 (4)"),
+    ("twice('a')", "method 0 ('a')"),
+    ("twice(n)", "method 0 (7) [0]"),
+    ("down(99)", "method 1 (99)"),
+    ("start()", "method 9"),
+    ("twice()", "wrong kind"),
+    ("twice(1, 2)", "wrong kind"),
+    ("twice(nope)", "unknown name"),
+    ("twice(nope, 1)", "wrong kind"),
+    ("start(nope)", "wrong kind"),
+    ("lost()", "wrong kind"),
+    ("lost(nope)", "wrong kind"),
+    ("twice(later)", "needs 7"),
+    ("twice(finished(1, 2))", "wrong kind"),
+    ("finished(n, s)", "signal 0 (7) ('ab') [0] [1]"),
+    ("finished(s, null)", "signal 0 ('ab') (null) [1]"),
+    ("finished()", "wrong kind"),
+    ("finished(1 / 0)", "wrong kind"),
+    ("finished(s, 1 / 0)", "zero divisor [1]"),
+    ("finished(nope, 1 / 0)", "unknown name"),
+    ("muted()", "wrong kind"),
+    ("muted(nope)", "wrong kind"),
+    ("console.log()", "log"),
+    ("console.log(1, s, true)", "log (1) ('ab') (true) [1]"),
+    ("console.log(twice(4), Math.min(1, 2))", "log (8) (1)"),
+    ("console.log(nope)", "unknown name"),
+    ("console.log(n, later, nope)", "needs 7 [0]"),
+    ("console.log(console.log())", "wrong kind"),
+    ("console.nope(1 / 0)", "unknown name"),
+    ("Math.abs(-3)", "done"),
+    ("Math.max(n, 3)", "done [0]"),
+    ("Math.abs()", "wrong kind"),
+    ("Math.abs(1, nope)", "wrong kind"),
+    ("Math.min('a', 1 / 0)", "zero divisor"),
+    ("Math.min('a', 1)", "wrong kind"),
+    ("Math.abs(-2147483647 - 1)", "overflow"),
+    ("nope(1 / 0)", "unknown name"),
+    ("nul.x(1 / 0)", "member of null [5]"),
+    ("o.nope()", "unknown name [4]"),
+    ("later(1)", "wrong kind"),
+    ("n(nope)", "wrong kind"),
+    ("7(nope)", "wrong kind"),
+    ("other(nope)", "wrong kind"),
+    ("anchors(nope)", "wrong kind"),
+    ("Math(nope)", "wrong kind"),
+    ("mouse(nope)", "wrong kind"),
+    ("(b ? twice : 1)(1)", "wrong kind [2]"),
+    ("down(down(64))", "too much"),
+    ("down(down(63))", "method 1 (5)"),
+];
+
 fn name(alloc: Global, text: &str) -> Result<Name, Fail> {
     if text.len() > 65536 {
         return Err(Fail::from("a long name"));
@@ -316,8 +400,7 @@ fn answer_text(alloc: Global, answer: &Eval) -> Result<String, Fail> {
 }
 
 /// The answer and the slots that were read.
-fn told(alloc: Global, answer: &Eval, trace: &Trace) -> Result<String, Fail> {
-    let mut text = answer_text(alloc, answer)?;
+fn told(mut text: String, trace: &Trace) -> Result<String, Fail> {
     for place in trace.as_slice() {
         let slot = place.slot;
         write!(text, " [{slot}]")?;
@@ -330,7 +413,7 @@ fn outcome(alloc: Global, text: &str, locals: &Locals, fake: &Fake) -> Result<St
     let e = expression(alloc, text)?;
     let mut trace = Trace::new(alloc);
     let answer = eval(alloc, e.get(), FRAME, locals, fake, &mut trace)?;
-    told(alloc, &answer, &trace)
+    told(answer_text(alloc, &answer)?, &trace)
 }
 
 /// Whether the expression of a text gives that.
@@ -360,6 +443,119 @@ fn first_wrong(alloc: Global) -> Result<Option<&'static str>, Fail> {
 #[test]
 fn expressions(rt: HostRuntime) -> Result<(), Fail> {
     assert_eq!(rt; first_wrong(rt.alloc())?, None);
+    Ok(())
+}
+
+fn aim_text(alloc: Global, answer: Aim) -> Result<String, Fail> {
+    let text = match answer {
+        Aim::At(place) => {
+            let slot = place.slot;
+            format!(in alloc; "place {slot}")
+        }
+        Aim::Needs(place) => {
+            let slot = place.slot;
+            format!(in alloc; "needs {slot}")
+        }
+        Aim::Faulted(fault) => format!(in alloc; "{fault}"),
+    };
+    Ok(text?)
+}
+
+/// Where the target of a text stands.
+fn target(alloc: Global, text: &str, locals: &Locals, fake: &Fake) -> Result<String, Fail> {
+    let e = expression(alloc, text)?;
+    let mut trace = Trace::new(alloc);
+    let answer = aim(alloc, e.get(), FRAME, locals, fake, &mut trace)?;
+    told(aim_text(alloc, answer)?, &trace)
+}
+
+/// The first target that is found elsewhere than it should be.
+fn first_wrong_target(alloc: Global) -> Result<Option<&'static str>, Fail> {
+    let fake = fake(alloc)?;
+    let locals = locals(alloc)?;
+    for (text, want) in TARGETS {
+        if target(alloc, text, &locals, &fake)?.as_str() != *want {
+            return Ok(Some(*text));
+        }
+    }
+    Ok(None)
+}
+
+#[test]
+fn targets(rt: HostRuntime) -> Result<(), Fail> {
+    assert_eq!(rt; first_wrong_target(rt.alloc())?, None);
+    Ok(())
+}
+
+/// A text, and behind it the values of arguments.
+fn with_arguments(mut text: String, arguments: &[Value]) -> Result<String, Fail> {
+    for argument in arguments {
+        match argument {
+            Value::Str(argument) => write!(text, " ('{argument}')")?,
+            argument => write!(text, " ({argument})")?,
+        }
+    }
+    Ok(text)
+}
+
+fn called_text(alloc: Global, answer: &Called) -> Result<String, Fail> {
+    match answer {
+        Called::Done => Ok(format!(in alloc; "done")?),
+        Called::Log(arguments) => {
+            with_arguments(format!(in alloc; "log")?, arguments.as_slice())
+        }
+        Called::Signal {
+            signal,
+            arguments,
+            ..
+        } => with_arguments(format!(in alloc; "signal {signal}")?, arguments.as_slice()),
+        Called::Method {
+            method,
+            arguments,
+            ..
+        } => with_arguments(format!(in alloc; "method {method}")?, arguments.as_slice()),
+        Called::Needs(place) => {
+            let slot = place.slot;
+            Ok(format!(in alloc; "needs {slot}")?)
+        }
+        Called::Faulted(fault) => Ok(format!(in alloc; "{fault}")?),
+    }
+}
+
+/// What the call of a text calls.
+fn statement(alloc: Global, text: &str, locals: &Locals, fake: &Fake) -> Result<String, Fail> {
+    let e = expression(alloc, text)?;
+    let Expr::Call(callee, arguments) = e.get() else {
+        return Err(Fail::from("no call"));
+    };
+    let mut trace = Trace::new(alloc);
+    let answer = call(
+        alloc,
+        callee.get(),
+        arguments.as_slice(),
+        FRAME,
+        locals,
+        fake,
+        &mut trace,
+    )?;
+    told(called_text(alloc, &answer)?, &trace)
+}
+
+/// The first call that is not as it should be.
+fn first_wrong_call(alloc: Global) -> Result<Option<&'static str>, Fail> {
+    let fake = fake(alloc)?;
+    let locals = locals(alloc)?;
+    for (text, want) in CALLS {
+        if statement(alloc, text, &locals, &fake)?.as_str() != *want {
+            return Ok(Some(*text));
+        }
+    }
+    Ok(None)
+}
+
+#[test]
+fn calls(rt: HostRuntime) -> Result<(), Fail> {
+    assert_eq!(rt; first_wrong_call(rt.alloc())?, None);
     Ok(())
 }
 
@@ -401,6 +597,41 @@ fn nodes(rt: HostRuntime) -> Result<(), Fail> {
     let most = signed_sum(rt.alloc(), 1)?;
     let more = signed_sum(rt.alloc(), 2)?;
     assert!(rt; most == Some(50_000) && more == None);
+    Ok(())
+}
+
+/// Whether a method is called with a sum of 49,999 numbers behind so many signs.
+fn takes_sum(alloc: Global, signs: u32) -> Result<bool, Fail> {
+    let fake = fake(alloc)?;
+    let callee = expression(alloc, "twice")?;
+    let mut e = sum(alloc, 49_999)?;
+    for _ in 0..signs {
+        e = Boxed::new(alloc, Expr::Unary(UnOp::Plus, e))?;
+    }
+    let mut arguments = Items::new(alloc);
+    arguments.push(e.into_inner())?;
+    let mut trace = Trace::new(alloc);
+    let answer = call(
+        alloc,
+        callee.get(),
+        arguments.as_slice(),
+        FRAME,
+        &Locals::new(alloc),
+        &fake,
+        &mut trace,
+    )?;
+    match answer {
+        Called::Method { .. } => Ok(true),
+        Called::Faulted(EvalFault::TooMuch) => Ok(false),
+        _ => Err(Fail::from("neither a method nor too much")),
+    }
+}
+
+#[test]
+fn nodes_of_a_call(rt: HostRuntime) -> Result<(), Fail> {
+    let most = takes_sum(rt.alloc(), 1)?;
+    let more = takes_sum(rt.alloc(), 2)?;
+    assert!(rt; most && !more);
     Ok(())
 }
 

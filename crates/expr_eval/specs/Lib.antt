@@ -5,6 +5,7 @@ pub mod Operators
 pub mod Senses
 pub mod Progress
 pub mod Evaluation
+pub mod Statements
 pub mod Needs
 pub mod Shapes
 pub mod Trees

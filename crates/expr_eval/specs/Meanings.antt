@@ -21,6 +21,11 @@ pub record Meanings : Type 0 where
   pub read : Place → Value
   pub method : ℕ → ℕ → Option Function
 
+-- how many arguments methods and signals take where a call of one stands as a whole statement
+pub record Arities : Type 0 where
+  pub method : ℕ → ℕ → Option ℕ
+  pub signal : ℕ → ℕ → Option ℕ
+
 -- a place's value, where it has one already
 abbrev pub seen : (Place → Bool) → Meanings → Place → Option Value
 seen clean means place = if clean place then Some (means.read place) else None

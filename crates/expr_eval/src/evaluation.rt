@@ -18,7 +18,7 @@ use std::alloc::{AllocError, Global};
 use std::mem;
 
 /// How many calls may nest in each other in one evaluation.
-const MOST_CALLS: u32 = 64;
+pub(crate) const MOST_CALLS: u32 = 64;
 
 /// Evaluates an expression in a frame with its locals, over the places that `reader` reads. Each place
 /// that is read is noted in `trace`, after those that stand there already. Operands and arguments are
@@ -69,15 +69,15 @@ pub fn eval<R: Reader>(
     }
 }
 
-// Where an expression stands.
+/// Where an expression stands.
 #[derive_where(Clone, Copy)]
-struct Setting<'a, R> {
-    alloc: Global,
-    frame: Frame,
-    locals: &'a Locals,
-    reader: &'a R,
-    // How many more calls may nest.
-    calls: u32,
+pub(crate) struct Setting<'a, R> {
+    pub(crate) alloc: Global,
+    pub(crate) frame: Frame,
+    pub(crate) locals: &'a Locals,
+    pub(crate) reader: &'a R,
+    /// How many more calls may nest.
+    pub(crate) calls: u32,
 }
 
 // The value of an expression. What stands for a place is read.
@@ -106,10 +106,14 @@ fn sense_of_value<R: Reader>(
     Ok(Sense::Is(value))
 }
 
-// What an expression stands for. Each visit of a node counts.
+/// What an expression stands for. Each visit of a node counts.
 #[cycle(evaluation)]
 #[tactic(auto, using(crate::proofs::Stops::stops))]
-fn sense<R: Reader>(e: &Expr, at: &Setting<'_, R>, progress: &mut Progress) -> Result<Sense, Halt>
+pub(crate) fn sense<R: Reader>(
+    e: &Expr,
+    at: &Setting<'_, R>,
+    progress: &mut Progress,
+) -> Result<Sense, Halt>
     ensures value { Gives (meant (R.clean at.now.reader.now) (R.means at.now.reader.now) at.now.calls e.now (at.now.frame, at.now.locals.now) progress.old) result progress.new }
     ensures grows { Grows progress.old progress.new }
 {
@@ -243,10 +247,10 @@ fn called<R: Reader>(
     }
 }
 
-// The number of arguments is tested before they are evaluated.
+/// The value of a function's call. The number of arguments is tested before they are evaluated.
 #[cycle(evaluation)]
 #[tactic(auto, using(crate::proofs::Stops::stops))]
-fn function_call<R: Reader>(
+pub(crate) fn function_call<R: Reader>(
     function: Function,
     arguments: &[Expr],
     at: &Setting<'_, R>,
@@ -312,10 +316,10 @@ fn body_value<R: Reader>(
     sense_of_value(returned, &inside, progress)
 }
 
-// The values of arguments, from left to right.
+/// The values of arguments, from left to right.
 #[cycle(evaluation)]
 #[tactic(auto, using(crate::proofs::Stops::stops))]
-fn values<R: Reader>(
+pub(crate) fn values<R: Reader>(
     arguments: &[Expr],
     at: &Setting<'_, R>,
     progress: &mut Progress,

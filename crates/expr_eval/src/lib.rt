@@ -15,11 +15,13 @@ mod operators;
 mod progress;
 mod reader;
 mod sense;
+mod statements;
 mod trace;
 
-pub use answer::Eval;
+pub use answer::{Aim, Called, Eval};
 pub use evaluation::eval;
 pub use found::{Found, Frame, GlobalName, GroupName};
 pub use locals::{Local, Locals, NamedLocal};
-pub use reader::{Method, Reader};
+pub use reader::{Callees, Method, Reader};
+pub use statements::{aim, call};
 pub use trace::Trace;

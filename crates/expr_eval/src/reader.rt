@@ -46,3 +46,22 @@ pub trait Reader {
     fn method(&self, of: u64, method: u32) -> Option<Method<'_>>
         ensures { option_map method_of result ≡ (means self.now).method of method };
 }
+
+/// A store that knows, too, how many arguments methods and signals take where a call of one stands as a
+/// whole statement.
+pub trait Callees: Reader {
+    ghost use Rattle.std.specs.Prelude.{◌≡◌};
+    ghost use Rattle.expr_eval.specs.Meanings.{Arities};
+
+    ghost arities: { Self → Arities };
+
+    /// How many arguments the method of that number of an object takes, whatever its body is. There is
+    /// none where the object is no more or has no such method.
+    fn method_arity(&self, of: u64, method: u32) -> Option<usize>
+        ensures { result ≡ (arities self.now).method of method };
+
+    /// How many arguments the signal of that number of an object takes. There is none where the object is
+    /// no more or has no such signal.
+    fn signal_arity(&self, of: u64, signal: u32) -> Option<usize>
+        ensures { result ≡ (arities self.now).signal of signal };
+}
