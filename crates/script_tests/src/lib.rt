@@ -1,0 +1,2 @@
+//! Tests of the notes of a run, as they are written.
+#![tactic(auto)]

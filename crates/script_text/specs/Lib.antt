@@ -1,0 +1,2 @@
+pub mod LoadFaults
+pub mod Notes
