@@ -1,2 +1,5 @@
 //! Tests of the notes of a run, as they are written.
 #![tactic(auto)]
+
+#[cfg(test)]
+mod tests;
