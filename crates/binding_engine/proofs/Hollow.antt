@@ -27,6 +27,7 @@ use Rattle.object_tree.specs.declared.property.Held.{Held}
 use Rattle.object_tree.specs.declared.property.Marks.{Marks}
 use Rattle.object_tree.specs.declared.property.Property.{Property}
 use Rattle.object_tree.specs.Growing.{context_at}
+use Rattle.object_tree.specs.Handlers.{method_numbered, function_of, callable_at}
 use Rattle.object_tree.specs.Looking.{member_named, member_in, member_of, or_none, id_found, member_at, root_of, root_member, found_here, found_in, global_named, looked_up}
 use Rattle.object_tree.specs.Names.{named}
 use Rattle.object_tree.specs.Properties.{held_of, binding_of, with_value, with_marks, restarted}
@@ -208,11 +209,14 @@ module _ (store : Store) where
   unfolding looked_up
   looks frame name = ap (λ (o : Option Found). elim o [ None ↦ global_named name | Some f ↦ f ]) (inside (length store.contexts) name frame.scope (Some frame.context))
 
+  callables : (n number : ℕ) → callable_at n number bare ≡ callable_at n number store
+  callables n number = asked (λ (o : Option Instance). option_and_then function_of (option_and_then (method_numbered n number) o)) (λ i. refl) n
+
   shapes : shape_of bare ≡ shape_of store
   shapes = λ i. record {
     look = λ frame name. looks frame name i;
     member = λ n g name. members n g name i;
-    method = λ n number. None;
+    method = λ n number. callables n number i;
     as_read = λ v. read_value v i;
   }
 

@@ -11,18 +11,19 @@ use Rattle.expr_eval.specs.Trees.{Tree, tree}
 use Rattle.settling.specs.Runs.{gives, faults, asks}
 use Rattle.object_tree.specs.declared.instance.Instance.{Instance}
 use Rattle.object_tree.specs.declared.property.Binding.{Binding}
+use Rattle.object_tree.specs.Handlers.{callable_at}
 use Rattle.object_tree.specs.Looking.{looked_up, member_of}
 use Rattle.object_tree.specs.Places.{places_of}
 use Rattle.object_tree.specs.Reading.{instance_at, binding_at, info_at, is_place, value_read}
 use Rattle.object_tree.specs.Store.{Store}
 use Rattle.object_tree.specs.Taking.{taken}
 
--- What a store means to expressions, whatever its places hold. No method can be called in an expression yet.
+-- What a store means to expressions, whatever its places hold.
 abbrev pub shape_of : Store → Shape
 shape_of store = record {
   look = λ frame name. looked_up frame name store;
   member = λ serial g name. member_of serial g name store;
-  method = λ serial number. None;
+  method = λ serial number. callable_at serial number store;
   as_read = value_read store;
 }
 

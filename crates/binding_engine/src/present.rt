@@ -111,9 +111,8 @@ impl Reader for Present<'_> {
         }
     }
 
-    /// The methods that documents declare are not known to a store yet.
-    fn method(&self, _of: u64, _method: u32) -> Option<Method<'_>> {
-        None
+    fn method(&self, of: u64, method: u32) -> Option<Method<'_>> {
+        self.objects.callable(of, method)
     }
 }
 

@@ -1,9 +1,12 @@
-//! Tests of objects: what is made of documents, what names stand for in them, and what calls leave.
+//! Tests of objects: what is made of documents, what names stand for in them, what is run of them, and what calls
+//! leave.
 #![tactic(auto)]
 
 #[cfg(test)]
 mod looks;
 #[cfg(test)]
 mod makes;
+#[cfg(test)]
+mod runs;
 #[cfg(test)]
 mod store;

@@ -12,6 +12,7 @@ pub mod Resuming
 pub mod Making
 pub mod Growing
 pub mod Looking
+pub mod Handlers
 pub mod First
 pub mod Settled
 pub mod Limits

@@ -5,6 +5,7 @@ mod changes;
 pub mod context;
 mod declaring;
 pub mod fault;
+pub mod handlers;
 pub mod instance;
 mod looking;
 mod making;
@@ -21,6 +22,7 @@ mod writing;
 
 pub use context::Context;
 pub use fault::MakeFault;
+pub use handlers::{Body, Handler};
 pub use instance::{Feature, Instance, Layer, Object};
 pub use names::Names;
 pub use objects::Objects;

@@ -202,7 +202,7 @@ impl Instance {
 
 impl Layer {
     // The object's declaration.
-    fn decl(&self) -> Option<&ObjectDecl>
+    pub(crate) fn decl(&self) -> Option<&ObjectDecl>
         ensures { option_copied result ≡ decl_of self.now }
     {
         self.component.get().objects.get(self.index as usize)

@@ -2,18 +2,19 @@ use crate::objects::Objects;
 use expr_eval::{Found, Frame, GroupName, Method, Reader};
 use qml_ast::{Name, Place, Value};
 
-/// A store whose places all have their values, as expressions read it.
+/// A store whose places all have their values, as expressions read it. What is no place is read as null.
 #[derive(Clone, Copy)]
 pub struct Settled<'a> {
     pub objects: &'a Objects,
 }
 
 impl Reader for Settled<'_> {
-    ghost use Rattle.object_tree.specs.Settled.{meanings, is_read};
+    ghost use Rattle.expr_eval.specs.Needs.{every};
+    ghost use Rattle.object_tree.specs.Settled.{meanings};
 
     ghost means = { λ settled. meanings settled.objects.now };
 
-    ghost clean = { λ settled. is_read settled.objects.now };
+    ghost clean = { λ settled. every };
 
     fn look(&self, frame: Frame, name: &Name) -> Found {
         self.objects.look(frame, name)
@@ -24,11 +25,10 @@ impl Reader for Settled<'_> {
     }
 
     fn read(&self, place: Place) -> Option<&Value> {
-        self.objects.value(place)
+        Some(self.objects.value_or_null(place))
     }
 
-    /// The methods that documents declare are not known to a store yet.
-    fn method(&self, _of: u64, _method: u32) -> Option<Method<'_>> {
-        None
+    fn method(&self, of: u64, method: u32) -> Option<Method<'_>> {
+        self.objects.callable(of, method)
     }
 }
