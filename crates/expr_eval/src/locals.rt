@@ -27,7 +27,32 @@ pub struct NamedLocal {
     pub fixed: bool,
 }
 
+impl Local {
+    // The same.
+    fn copy(&self, alloc: Global) -> Result<Local, AllocError>
+        ensures { IfOk result (λ copied. copied ≡ self.now) }
+    {
+        match self {
+            Local::Plain(value) => Ok(Local::Plain(value.copy(alloc)?)),
+            Local::Mouse(x, y) => Ok(Local::Mouse(*x, *y)),
+        }
+    }
+}
+
 impl NamedLocal {
+    // The same.
+    fn copy(&self, alloc: Global) -> Result<NamedLocal, AllocError>
+        ensures { IfOk result (λ copied. copied ≡ self.now) }
+    {
+        let name = self.name.copy(alloc)?;
+        let held = self.held.copy(alloc)?;
+        Ok(NamedLocal {
+            name,
+            held,
+            fixed: self.fixed,
+        })
+    }
+
     // Whether nothing can be assigned to it.
     fn is_fixed(&self) -> bool
         ensures { result ≡ is_fixed self.now.held self.now.fixed }
@@ -67,7 +92,7 @@ impl Locals {
 
     /// The parameters of a method with the arguments of a call.
     #[tactic(auto, using(crate::proofs::Named::bound_past_params, crate::proofs::Named::bound_past_values))]
-    pub(crate) fn of_call(
+    pub fn of_call(
         alloc: Global,
         params: &[Name],
         arguments: &[Value],
@@ -88,6 +113,21 @@ impl Locals {
                 }
                 None => return Ok(Locals { entries }),
             }
+        }
+        Ok(Locals { entries })
+    }
+
+    /// The same locals.
+    ///
+    /// # Errors
+    ///
+    /// `AllocError` if memory runs out.
+    pub fn copy(&self, alloc: Global) -> Result<Locals, AllocError>
+        ensures { IfOk result (λ copied. copied ≡ self.now) }
+    {
+        let mut entries = Vec::new(alloc);
+        for entry in self.entries.as_slice() {
+            entries.push(entry.copy(alloc)?)?;
         }
         Ok(Locals { entries })
     }

@@ -51,8 +51,8 @@ impl Layer {
         }
     }
 
-    // The handlers that it declares.
-    fn handlers(&self) -> &[HandlerDecl]
+    /// The handlers that it declares.
+    pub(crate) fn handlers(&self) -> &[HandlerDecl]
         ensures { result.now ≡ handlers_in (decl_of self.now) }
     {
         match self.decl() {
@@ -81,8 +81,8 @@ impl Layer {
         }
     }
 
-    // A handler that it declares of an object.
-    fn handler<'a>(&'a self, serial: u64, decl: &'a HandlerDecl) -> Handler<'a>
+    /// A handler that it declares of an object.
+    pub(crate) fn handler<'a>(&'a self, serial: u64, decl: &'a HandlerDecl) -> Handler<'a>
         ensures { handler_seen result ≡ handler_of serial self.now decl.now }
     {
         Handler {

@@ -7,6 +7,7 @@ mod declaring;
 pub mod fault;
 pub mod handlers;
 pub mod instance;
+mod listing;
 mod looking;
 mod making;
 pub mod names;

@@ -1,5 +1,5 @@
 use crate::objects::Objects;
-use expr_eval::{Found, Frame, GroupName, Method, Reader};
+use expr_eval::{Callees, Found, Frame, GroupName, Method, Reader};
 use qml_ast::{Name, Place, Value};
 
 /// A store whose places all have their values, as expressions read it. What is no place is read as null.
@@ -30,5 +30,19 @@ impl Reader for Settled<'_> {
 
     fn method(&self, of: u64, method: u32) -> Option<Method<'_>> {
         self.objects.callable(of, method)
+    }
+}
+
+impl Callees for Settled<'_> {
+    ghost use Rattle.object_tree.specs.Settled.{arities};
+
+    ghost arities = { λ settled. arities settled.objects.now };
+
+    fn method_arity(&self, of: u64, method: u32) -> Option<usize> {
+        self.objects.method_arity(of, method)
+    }
+
+    fn signal_arity(&self, of: u64, signal: u32) -> Option<usize> {
+        self.objects.signal_arity(of, signal)
     }
 }

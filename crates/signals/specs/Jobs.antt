@@ -1,0 +1,112 @@
+-- What handlers and methods run, and with which locals.
+use Rattle.std.specs.Prelude.{ℕ, Bool, true, false, ◌&&◌, if◌then◌else◌, is_none, List, [], ◌∷◌, ◌++◌, map, filter, take, drop, Option, None, Some, Result, Ok, Err, bytes_eq, codes}
+use Rattle.std.specs.List.{list_any}
+use Rattle.qml_ast.specs.declared.eval_fault.EvalFault.{EvalFault}
+use Rattle.qml_ast.specs.declared.eval_fault.EvalFault.TheVariants.{WrongKind}
+use Rattle.qml_ast.specs.declared.path.Path.{Path}
+use Rattle.qml_ast.specs.declared.value.Value.{Value}
+use Rattle.qml_ast.specs.declared.value.Value.TheVariants.{Int}
+use Rattle.type_table.specs.declared.slot.Kind.{Kind}
+use Rattle.type_table.specs.declared.slot.Kind.TheVariants as kind
+use Rattle.qml_types.specs.Scope.{signals_for, begins_upper, with_lower}
+use Rattle.expr_eval.specs.Names.{declared, bound}
+use Rattle.expr_eval.specs.declared.locals.Local.TheVariants.{Plain, Mouse}
+use Rattle.expr_eval.specs.declared.locals.NamedLocal.{NamedLocal}
+use Rattle.object_tree.specs.Handlers.{Handler, Method}
+use Rattle.object_tree.specs.Store.{Store}
+use Rattle.object_tree.specs.Taking.{taken}
+use Rattle.signals.specs.declared.job.Body.TheVariants as body
+use Rattle.signals.specs.declared.jobs.Occasion.{Occasion}
+use Rattle.signals.specs.declared.jobs.Occasion.TheVariants.{Signal, Completion}
+use Rattle.signals.specs.declared.job.Job.{Job}
+use Rattle.signals.specs.declared.job.Site.{Site}
+
+-- ---- handlers
+-- a handler of that path handles a signal of this name
+unfoldable pub handles_signal : List ℕ → Path → Bool
+handles_signal name path = is_none path.second && list_any (bytes_eq name) (signals_for path.first)
+
+abbrev pub is_named : List ℕ → Option (List ℕ) → Bool
+is_named name None = false
+is_named name (Some other) = bytes_eq other name
+
+-- a handler of that path runs once its object is there with all that stands beside it
+unfoldable pub handles_completion : Path → Bool
+handles_completion path = bytes_eq path.first (codes "Component") && is_named (codes "onCompleted") path.second
+
+abbrev pub job_of : Handler → List NamedLocal → Job
+job_of h locals = record {
+  site = record { frame = h.frame; component = h.component; span = h.span };
+  body = body.Handler h.body;
+  locals = locals;
+}
+
+-- the jobs of those handlers whose path passes the test
+abbrev pub jobs_where : (Path → Bool) → List NamedLocal → List Handler → List Job
+jobs_where handles locals handlers = map (λ h. job_of h locals) (filter (λ h. handles h.path) handlers)
+
+-- ---- the locals of a signal's handlers
+-- parameters, each with its argument
+abbrev pub with_params : List (List ℕ × Kind) → List Value → List NamedLocal → List NamedLocal
+with_params [] args locals = locals
+with_params (param ∷ params) [] locals = locals
+with_params (param ∷ params) (arg ∷ args) locals = with_params params args (declared param.0 (Plain arg) false locals)
+
+-- the built-in signals with arguments tell where the mouse is
+abbrev pub mouse_locals : List Value → List NamedLocal
+mouse_locals (Int x ∷ Int y ∷ []) = declared (codes "mouse") (Mouse x y) true []
+mouse_locals _ = []
+
+abbrev pub signal_locals : Option (List (List ℕ × Kind)) → List Value → List NamedLocal
+signal_locals None args = mouse_locals args
+signal_locals (Some params) args = with_params params args []
+
+-- ---- the arguments of a signal
+-- a parameter's kind; the arguments of built-in signals are numbers
+abbrev pub kind_in : Option (List Kind) → Kind
+kind_in None = kind.Int
+kind_in (Some []) = kind.Var
+kind_in (Some (k ∷ _)) = k
+
+abbrev pub kinds_behind : Option (List Kind) → Option (List Kind)
+kinds_behind None = None
+kinds_behind (Some []) = Some []
+kinds_behind (Some (_ ∷ kinds)) = Some kinds
+
+-- each argument as its parameter's kind takes it, after those that are done; what one of them does not take is a fault
+abbrev pub taken_from : Store → List Value → Option (List Kind) → List Value → Result (List Value) EvalFault
+taken_from store done kinds [] = Ok done
+taken_from store done kinds (arg ∷ args) = with_taken (taken store (kind_in kinds) arg) (λ v. taken_from store (done ++ v ∷ []) (kinds_behind kinds) args)
+  where
+    with_taken : Option Value → (Value → Result (List Value) EvalFault) → Result (List Value) EvalFault
+    with_taken None next = Err WrongKind
+    with_taken (Some v) next = next v
+
+abbrev pub kinds_of : Option (List (List ℕ × Kind)) → Option (List Kind)
+kinds_of None = None
+kinds_of (Some params) = Some (map (λ p. p.1) params)
+
+abbrev pub taken_arguments : Store → Option (List (List ℕ × Kind)) → List Value → Result (List Value) EvalFault
+taken_arguments store params args = taken_from store [] (kinds_of params) args
+
+-- ---- methods
+-- a method runs where its names are looked up; its notes stand where those of its caller stand
+abbrev pub method_job : Site → Method → List Value → Job
+method_job site m args = record {
+  site = record site { frame = m.frame };
+  body = body.Method m.body;
+  locals = bound m.params args;
+}
+
+-- ---- the code's test
+abbrev pub handles : Occasion → Path → Bool
+handles (Signal name) path = handles_signal name.now path
+handles Completion path = handles_completion path
+
+-- the name after `on`, where an upper-case letter begins it
+abbrev pub handled_name : List ℕ → Option (List ℕ)
+handled_name name = if bytes_eq (take 2 name) (codes "on") && begins_upper (drop 2 name) then Some (drop 2 name) else None
+
+-- the other name is this one, which an upper-case letter begins, with that in lower case
+abbrev pub is_lowered : List ℕ → List ℕ → Bool
+is_lowered upper name = bytes_eq name (with_lower upper)

@@ -1,0 +1,92 @@
+ghost use Rattle.std.specs.Prelude.{◌≡◌, ◌++◌, map, flat_map, OnOk};
+ghost use Rattle.signals.specs.Noting.{loop_note, fault_note, file_of, with_fault_note, limited};
+
+use crate::job::Site;
+use crate::world::World;
+use object_tree::Objects;
+use qml_ast::{At, EvalFault, Place};
+use script_text::{LimitKind, Note, Notes};
+use settling::LoopFound;
+use std::alloc::AllocError;
+
+// Notes the loop in which a place was suspended.
+fn note_loop(objects: &Objects, place: Place, notes: &mut Notes) -> Result<(), AllocError>
+    ensures { OnOk result (notes.new ≡ notes.old ++ loop_note objects.now place) }
+{
+    let Some(at) = objects.at(place) else {
+        return Ok(());
+    };
+    let path = objects.path(place).unwrap_or("");
+    notes.line(&Note::Loop(at, path))
+}
+
+/// Notes the loops of a settle.
+pub(crate) fn note_loops(
+    objects: &Objects,
+    loops: &[LoopFound<Place>],
+    notes: &mut Notes,
+) -> Result<(), AllocError>
+    ensures { OnOk result (notes.new ≡ notes.old ++ flat_map (loop_note objects.now) (map (λ found. found.place) loops.now)) }
+{
+    for found in loops {
+        note_loop(objects, found.place, notes)?;
+    }
+    Ok(())
+}
+
+// Notes the fault of a place's expression.
+fn note_fault(
+    objects: &Objects,
+    place: Place,
+    fault: EvalFault,
+    notes: &mut Notes,
+) -> Result<(), AllocError>
+    ensures { OnOk result (notes.new ≡ notes.old ++ fault_note objects.now (place, fault)) }
+{
+    match objects.at(place) {
+        Some(at) => notes.line(&Note::Fault(at, fault)),
+        None => Ok(()),
+    }
+}
+
+/// Notes the faults of a settle.
+pub(crate) fn note_faults(
+    objects: &Objects,
+    faults: &[(Place, EvalFault)],
+    notes: &mut Notes,
+) -> Result<(), AllocError>
+    ensures { OnOk result (notes.new ≡ notes.old ++ flat_map (fault_note objects.now) faults.now) }
+{
+    for (place, fault) in faults {
+        note_fault(objects, *place, *fault, notes)?;
+    }
+    Ok(())
+}
+
+impl Site {
+    // Where its notes stand.
+    fn at(&self) -> At<'_>
+        ensures { (result.file.now ≡ file_of self.now) × (result.span ≡ self.now.span) }
+    {
+        At {
+            file: &self.component.get().file,
+            span: self.span,
+        }
+    }
+}
+
+impl World {
+    /// Notes the fault that ends a handler.
+    pub(crate) fn note_end(&mut self, site: &Site, fault: EvalFault) -> Result<(), AllocError>
+        ensures { OnOk result (self.new ≡ with_fault_note site.now fault self.old) }
+    {
+        self.notes.line(&Note::Fault(site.at(), fault))
+    }
+
+    /// Notes a limit that was met.
+    pub(crate) fn note_limit(&mut self, site: &Site, limit: LimitKind) -> Result<(), AllocError>
+        ensures { OnOk result (self.new ≡ limited site.now limit self.old) }
+    {
+        self.notes.line(&Note::Limit(site.at(), limit))
+    }
+}
