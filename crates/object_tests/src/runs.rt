@@ -49,9 +49,13 @@ fn is_handler(alloc: Global, serial: u64, index: u32, wanted: &str) -> Result<bo
     match objects.handler(serial, index) {
         Some(handler) => {
             let told = told(alloc, handler)?;
-            Ok(told.as_str() == wanted && (index as usize) < objects.handler_count(serial))
+            let count = objects.handlers(alloc, serial)?.len();
+            Ok(told.as_str() == wanted && (index as usize) < count)
         }
-        None => Ok(wanted == "none" && objects.handler_count(serial) <= index as usize),
+        None => {
+            let count = objects.handlers(alloc, serial)?.len();
+            Ok(wanted == "none" && count <= index as usize)
+        }
     }
 }
 

@@ -2,8 +2,7 @@ ghost use Rattle.std.specs.Prelude.{◌≡◌, length, option_copied, option_map
 ghost use Rattle.type_table.specs.Names.{signals};
 ghost use Rattle.expr_eval.specs.Meanings.{method_of};
 ghost use Rattle.object_tree.specs.Layers.{decl_of};
-ghost use Rattle.object_tree.specs.Limits.{capped};
-ghost use Rattle.object_tree.specs.Handlers.{frame_in, handler_seen, handlers_in, handler_of, handlers_of, handlers_at, handler_at, signals_in, declared_signals, signal_decl_of, signal_name_at, signal_params_at, signal_arity_at, method_seen, methods_in, method_in, declared_methods, method_numbered, method_at, method_arity_at, returned, callable_at};
+ghost use Rattle.object_tree.specs.Handlers.{frame_in, handler_seen, handlers_in, handler_of, handlers_of, handler_at, signals_in, declared_signals, signal_decl_of, signal_name_at, signal_params_at, signal_arity_at, method_seen, methods_in, method_in, declared_methods, method_numbered, method_at, method_arity_at, returned, callable_at};
 
 use crate::instance::{Instance, Layer};
 use crate::objects::Objects;
@@ -122,17 +121,6 @@ impl Instance {
         None
     }
 
-    // How many handlers it has, up to 2^64 - 1.
-    fn handler_count(&self, serial: u64) -> usize
-        ensures { result ≡ capped (length (handlers_of serial self.now)) }
-    {
-        let mut count = 0_usize;
-        for layer in self.layers.as_slice() {
-            count = count.saturating_add(layer.handlers().len());
-        }
-        count
-    }
-
     // The declared signal with that number of declared ones before it.
     fn declared_signal(&self, index: usize) -> Option<&SignalDecl>
         ensures { option_copied result ≡ slice_get (declared_signals self.now.layers) index }
@@ -218,16 +206,6 @@ impl Objects {
         ensures { option_map handler_seen result ≡ handler_at serial index self.now }
     {
         self.objects.get(serial)?.handler(serial, index as usize)
-    }
-
-    /// How many handlers an object has, counted up to 2^64 - 1: none where it is not live.
-    pub fn handler_count(&self, serial: u64) -> usize
-        ensures { result ≡ capped (length (handlers_at serial self.now)) }
-    {
-        match self.objects.get(serial) {
-            Some(instance) => instance.handler_count(serial),
-            None => 0,
-        }
     }
 
     /// The method of that number of an object. None where the object is not live, where it has no such method,

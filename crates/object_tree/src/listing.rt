@@ -1,5 +1,5 @@
 ghost use Rattle.std.specs.Prelude.{◌≡◌, ◌++◌, map, IfOk, OnOk};
-ghost use Rattle.arena.specs.Arena.{keys_of};
+ghost use Rattle.std.specs.Map.{keys_of};
 ghost use Rattle.object_tree.specs.Handlers.{handler_seen, handler_of, layer_handlers, handlers_under, handlers_at};
 
 use crate::handlers::Handler;

@@ -50,8 +50,8 @@ fn compound(alloc: Global, op: AssignOp, old: &Value, right: Value) -> Result<Va
 }
 
 impl World {
-    fn right_value(&self, right: Right<'_>, at: Setting<'_>, locals: &Locals) -> Result<Value, Stop>
-        ensures { Gives (right_in at.site.now.frame self.now.objects locals.now right) result }
+    fn right_value(&self, right: Right<'_>, at: &Setting<'_>, locals: &Locals) -> Result<Value, Stop>
+        ensures { Gives (right_in at.now.site.now.frame self.now.objects locals.now right.entry) result }
     {
         match right {
             Right::Of(e) => self.value(e, at, locals),
@@ -65,10 +65,10 @@ impl World {
         op: AssignOp,
         old: &Value,
         right: Right<'_>,
-        at: Setting<'_>,
+        at: &Setting<'_>,
         locals: &Locals,
     ) -> Result<Value, Stop>
-        ensures { Gives (combined op (Ok old.now) (right_in at.site.now.frame self.now.objects locals.now right)) result }
+        ensures { Gives (combined op (Ok old.now) (right_in at.now.site.now.frame self.now.objects locals.now right.entry)) result }
     {
         let right = self.right_value(right, at, locals)?;
         Ok(compound(at.alloc, op, old, right)?)
@@ -80,10 +80,10 @@ impl World {
         name: &Name,
         op: AssignOp,
         right: Right<'_>,
-        at: Setting<'_>,
+        at: &Setting<'_>,
         locals: &mut Locals,
     ) -> Result<Flow, Stop>
-        ensures { Leaves (to_local at.site.now name.now op (right_in at.site.now.frame self.now.objects locals.old right) self.now locals.old) result self.now locals.new }
+        ensures { Leaves (to_local at.now.site.now name.now op (right_in at.now.site.now.frame self.now.objects locals.old right.entry) self.now locals.old) result self.now locals.new }
     {
         let value = self.local_value(name, op, right, at, locals)?;
         locals.assign(name, value)?;
@@ -96,10 +96,10 @@ impl World {
         name: &Name,
         op: AssignOp,
         right: Right<'_>,
-        at: Setting<'_>,
+        at: &Setting<'_>,
         locals: &Locals,
     ) -> Result<Value, Stop>
-        ensures { Gives (combined op (held_value (local_named name.now locals.now)) (right_in at.site.now.frame self.now.objects locals.now right)) result }
+        ensures { Gives (combined op (held_value (local_named name.now locals.now)) (right_in at.now.site.now.frame self.now.objects locals.now right.entry)) result }
     {
         if op == AssignOp::Set {
             return self.right_value(right, at, locals);
@@ -112,8 +112,8 @@ impl World {
     }
 
     // The place that a target stands for.
-    fn aimed(&self, target: &Expr, at: Setting<'_>, locals: &Locals) -> Result<Place, Stop>
-        ensures { Gives (aimed_place (aimed every (meanings self.now.objects) target.now at.site.now.frame locals.now []).0) result }
+    fn aimed(&self, target: &Expr, at: &Setting<'_>, locals: &Locals) -> Result<Place, Stop>
+        ensures { Gives (aimed_place (aimed every (meanings self.now.objects) target.now at.now.site.now.frame locals.now []).0) result }
     {
         let reader = Settled {
             objects: &self.objects,
@@ -161,10 +161,10 @@ impl World {
         target: &Expr,
         op: AssignOp,
         right: Right<'_>,
-        at: Setting<'_>,
+        at: &Setting<'_>,
         locals: &Locals,
     ) -> Result<(Place, Value), Stop>
-        ensures { Gives (assignment (aimed every (meanings self.now.objects) target.now at.site.now.frame locals.now []).0 op (right_in at.site.now.frame self.now.objects locals.now right) self.now.objects) result }
+        ensures { Gives (assignment (aimed every (meanings self.now.objects) target.now at.now.site.now.frame locals.now []).0 op (right_in at.now.site.now.frame self.now.objects locals.now right.entry) self.now.objects) result }
     {
         let place = self.aimed(target, at, locals)?;
         let old = self.objects.value_or_null(place);

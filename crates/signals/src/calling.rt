@@ -27,10 +27,10 @@ impl World {
         &self,
         callee: &Expr,
         arguments: &[Expr],
-        at: Setting<'_>,
+        at: &Setting<'_>,
         locals: &Locals,
     ) -> Result<Called, AllocError>
-        ensures { IfOk result (λ answer. answer ≡ (called every (meanings self.now.objects) (arities self.now.objects) callee.now arguments.now at.site.now.frame locals.now []).0) }
+        ensures { IfOk result (λ answer. answer ≡ (called every (meanings self.now.objects) (arities self.now.objects) callee.now arguments.now at.now.site.now.frame locals.now []).0) }
     {
         let reader = Settled {
             objects: &self.objects,

@@ -125,7 +125,7 @@ impl World {
             return Ok(Ran::Ended);
         }
         let locals = Locals::new(alloc);
-        let outcome = self.handled(alloc, of, Occasion::Completion, &locals, MOST_HANDLERS);
+        let outcome = self.handled(alloc, of, &Occasion::Completion, &locals, MOST_HANDLERS);
         self.ran(outcome)
     }
 }

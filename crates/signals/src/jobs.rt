@@ -1,4 +1,4 @@
-ghost use Rattle.std.specs.Prelude.{◌≡◌, ◌<◌, length, map, option_map, IfOk, OnOk};
+ghost use Rattle.std.specs.Prelude.{◌≡◌, ◌++◌, [], codes, option_map, option_copied, string_bytes, IfOk};
 ghost use Rattle.signals.specs.Endings.{Gives};
 ghost use Rattle.signals.specs.Jobs.{handles_signal, handles_completion, job_of, jobs_where, handled_name, is_lowered, kinds_of, with_params, mouse_locals, signal_locals, taken_from, taken_arguments, method_job, handles};
 ghost use Rattle.object_tree.specs.Handlers.{handler_seen, handlers_at, signal_params_at, signal_name_at, method_at};
@@ -74,8 +74,8 @@ fn handles_completion(path: &Path) -> bool
 
 impl Occasion<'_> {
     // Whether a handler of that path runs.
-    fn is_handled(self, path: &Path) -> bool
-        ensures { result ≡ handles self path.now }
+    fn is_handled(&self, path: &Path) -> bool
+        ensures { result ≡ handles self.now path.now }
     {
         match self {
             Occasion::Signal(name) => handles_signal(name, path),
@@ -85,8 +85,8 @@ impl Occasion<'_> {
 }
 
 // A handler's job.
-fn job_of(alloc: Global, handler: Handler<'_>, locals: &Locals) -> Result<Job, AllocError>
-    ensures { IfOk result (λ job. job ≡ job_of (handler_seen handler) locals.now) }
+fn job_of(alloc: Global, handler: &Handler<'_>, locals: &Locals) -> Result<Job, AllocError>
+    ensures { IfOk result (λ job. job ≡ job_of (handler_seen handler.now) locals.now) }
 {
     let component = handler.component.share()?;
     let body = Body::Handler(handler.body.share()?);
@@ -107,16 +107,16 @@ pub(crate) fn jobs(
     alloc: Global,
     objects: &Objects,
     of: u64,
-    occasion: Occasion<'_>,
+    occasion: &Occasion<'_>,
     locals: &Locals,
 ) -> Result<Vec<Job>, AllocError>
-    ensures { IfOk result (λ jobs. jobs.items ≡ jobs_where (handles occasion) locals.now (handlers_at of objects.now)) }
+    ensures { IfOk result (λ jobs. jobs.items ≡ jobs_where (handles occasion.now) locals.now (handlers_at of objects.now)) }
 {
     let handlers = objects.handlers(alloc, of)?;
     let mut jobs = Vec::new(alloc);
     for handler in handlers.as_slice() {
         if occasion.is_handled(handler.path) {
-            jobs.push(job_of(alloc, *handler, locals)?)?;
+            jobs.push(job_of(alloc, handler, locals)?)?;
         }
     }
     Ok(jobs)
@@ -176,7 +176,7 @@ pub(crate) fn signal_name(
     of: u64,
     signal: u32,
 ) -> Result<Option<String>, AllocError>
-    ensures { IfOk result (λ name. name ≡ signal_name_at of signal objects.now) }
+    ensures { IfOk result (λ name. option_map string_bytes name ≡ signal_name_at of signal objects.now) }
 {
     match objects.signal_name(of, signal) {
         Some(name) => Ok(Some(String::from_str(alloc, name)?)),
@@ -190,7 +190,7 @@ pub(crate) fn change_name(
     objects: &Objects,
     place: Place,
 ) -> Result<Option<String>, AllocError>
-    ensures { IfOk result (λ name. name ≡ option_map (λ path. path ++ codes "Changed") (path_at place objects.now)) }
+    ensures { IfOk result (λ name. option_map string_bytes name ≡ option_map (λ path. path ++ codes "Changed") (path_at place objects.now)) }
 {
     let Some(path) = objects.path(place) else {
         return Ok(None);

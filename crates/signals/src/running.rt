@@ -25,7 +25,7 @@ use std::alloc::Global;
 
 impl World {
     // Counts a statement that begins. Where no more may begin, that is noted.
-    fn begin_statement(&mut self, at: Setting<'_>) -> Result<(), Stop> {
+    fn begin_statement(&mut self, at: &Setting<'_>) -> Result<(), Stop> {
         if self.left == 0 {
             self.note_limit(at.site, LimitKind::Statements)?;
             return Err(Stop::Halted(Halt::Budget));
@@ -40,7 +40,7 @@ impl World {
         word: LocalWord,
         name: &Name,
         value: Option<&Expr>,
-        at: Setting<'_>,
+        at: &Setting<'_>,
         locals: &mut Locals,
     ) -> Result<Flow, Stop> {
         let value = self.value_or_undefined(value, at, locals)?;
@@ -58,10 +58,10 @@ impl World {
     fn exec(
         &mut self,
         stmt: &Stmt,
-        at: Setting<'_>,
+        at: &Setting<'_>,
         locals: &mut Locals,
     ) -> Result<Flow, Stop>
-        ensures runs { Leaves (exec (handle at.room) at.site.now stmt.now self.old locals.old) result self.new locals.new }
+        ensures runs { Leaves (exec (handle at.now.room) at.now.site.now stmt.now self.old locals.old) result self.new locals.new }
         ensures left { self.new.left ≤ self.old.left }
         ensures spends { OnOk result (self.new.left < self.old.left) }
     {
@@ -103,10 +103,10 @@ impl World {
     fn in_order(
         &mut self,
         stmts: &[Stmt],
-        at: Setting<'_>,
+        at: &Setting<'_>,
         locals: &mut Locals,
     ) -> Result<Flow, Stop>
-        ensures runs { Leaves (in_order (handle at.room) at.site.now (map (exec (handle at.room) at.site.now) stmts.now) self.old locals.old) result self.new locals.new }
+        ensures runs { Leaves (in_order (handle at.now.room) at.now.site.now (map (exec (handle at.now.room) at.now.site.now) stmts.now) self.old locals.old) result self.new locals.new }
         ensures left { self.new.left ≤ self.old.left }
     {
         for stmt in stmts {
@@ -123,10 +123,10 @@ impl World {
     fn part(
         &mut self,
         stmt: Option<&Boxed<Stmt>>,
-        at: Setting<'_>,
+        at: &Setting<'_>,
         locals: &mut Locals,
     ) -> Result<Flow, Stop>
-        ensures runs { Leaves (part (handle at.room) at.site.now (option_map (exec (handle at.room) at.site.now) (option_copied stmt)) self.old locals.old) result self.new locals.new }
+        ensures runs { Leaves (part (handle at.now.room) at.now.site.now (option_map (exec (handle at.now.room) at.now.site.now) (option_copied stmt.entry)) self.old locals.old) result self.new locals.new }
         ensures left { self.new.left ≤ self.old.left }
     {
         match stmt {
@@ -141,7 +141,7 @@ impl World {
         condition: &Expr,
         first: &Boxed<Stmt>,
         otherwise: Option<&Boxed<Stmt>>,
-        at: Setting<'_>,
+        at: &Setting<'_>,
         locals: &mut Locals,
     ) -> Result<Flow, Stop>
     {
@@ -161,7 +161,7 @@ impl World {
         condition: Option<&Expr>,
         step: Option<&Boxed<Stmt>>,
         body: &Boxed<Stmt>,
-        at: Setting<'_>,
+        at: &Setting<'_>,
         locals: &mut Locals,
     ) -> Result<Flow, Stop>
     {
@@ -178,7 +178,7 @@ impl World {
         condition: Option<&Expr>,
         body: &Boxed<Stmt>,
         step: Option<&Boxed<Stmt>>,
-        at: Setting<'_>,
+        at: &Setting<'_>,
         locals: &mut Locals,
     ) -> Result<Flow, Stop>
     {
@@ -200,7 +200,7 @@ impl World {
         &mut self,
         body: &Boxed<Stmt>,
         step: Option<&Boxed<Stmt>>,
-        at: Setting<'_>,
+        at: &Setting<'_>,
         locals: &mut Locals,
     ) -> Result<Flow, Stop>
     {
@@ -216,7 +216,7 @@ impl World {
         &mut self,
         target: &Expr,
         up: bool,
-        at: Setting<'_>,
+        at: &Setting<'_>,
         locals: &mut Locals,
     ) -> Result<Flow, Stop>
     {
@@ -231,7 +231,7 @@ impl World {
         target: &Expr,
         op: AssignOp,
         right: Right<'_>,
-        at: Setting<'_>,
+        at: &Setting<'_>,
         locals: &mut Locals,
     ) -> Result<Flow, Stop>
     {
@@ -248,7 +248,7 @@ impl World {
     fn perform(
         &mut self,
         e: &Expr,
-        at: Setting<'_>,
+        at: &Setting<'_>,
         locals: &mut Locals,
     ) -> Result<Flow, Stop>
     {
@@ -269,7 +269,7 @@ impl World {
         &mut self,
         callee: &Expr,
         arguments: &[Expr],
-        at: Setting<'_>,
+        at: &Setting<'_>,
         locals: &mut Locals,
     ) -> Result<Flow, Stop>
     {
@@ -298,7 +298,7 @@ impl World {
         of: u64,
         signal: u32,
         arguments: &[Value],
-        at: Setting<'_>,
+        at: &Setting<'_>,
     ) -> Result<Flow, Stop>
     {
         let taken = taken_arguments(at.alloc, &self.objects, of, signal, arguments)?;
@@ -313,7 +313,7 @@ impl World {
         of: u64,
         method: u32,
         arguments: &[Value],
-        at: Setting<'_>,
+        at: &Setting<'_>,
     ) -> Result<Flow, Stop>
     {
         match method_job(at.alloc, &self.objects, of, method, arguments, at.site)? {
@@ -383,7 +383,7 @@ impl World {
             room: room - 1,
         };
         let mut locals = job.locals.copy(alloc)?;
-        match self.run_body(&job.body, at, &mut locals) {
+        match self.run_body(&job.body, &at, &mut locals) {
             Ok(_) => Ok(()),
             Err(Stop::Fault(fault)) => Ok(self.note_end(&job.site, fault)?),
             Err(Stop::Halted(halt)) => Err(halt),
@@ -394,10 +394,10 @@ impl World {
     fn run_body(
         &mut self,
         body: &Body,
-        at: Setting<'_>,
+        at: &Setting<'_>,
         locals: &mut Locals,
     ) -> Result<Flow, Stop>
-        ensures runs { Leaves (body_done (handle at.room) at.site.now body.now self.old locals.old) result self.new locals.new }
+        ensures runs { Leaves (body_done (handle at.now.room) at.now.site.now body.now self.old locals.old) result self.new locals.new }
         ensures left { self.new.left ≤ self.old.left }
     {
         match body {
@@ -412,11 +412,11 @@ impl World {
         &mut self,
         alloc: Global,
         of: u64,
-        occasion: Occasion<'_>,
+        occasion: &Occasion<'_>,
         locals: &Locals,
         room: u32,
     ) -> Result<(), Halt>
-        ensures runs { Ends (handled (handle room) of (handles occasion) locals.now self.old) result self.new }
+        ensures runs { Ends (handled (handle room) of (handles occasion.now) locals.now self.old) result self.new }
         ensures left { self.new.left ≤ self.old.left }
     {
         let jobs = jobs(alloc, &self.objects, of, occasion, locals)?;
@@ -442,7 +442,7 @@ impl World {
         let locals = signal_locals(alloc, &self.objects, of, signal, arguments)?;
         match signal_name(alloc, &self.objects, of, signal)? {
             Some(name) => {
-                self.handled(alloc, of, Occasion::Signal(name.as_str()), &locals, room)
+                self.handled(alloc, of, &Occasion::Signal(name.as_str()), &locals, room)
             }
             None => Ok(()),
         }
@@ -458,7 +458,7 @@ impl World {
             Some(name) => {
                 let locals = Locals::new(alloc);
                 let occasion = Occasion::Signal(name.as_str());
-                self.handled(alloc, place.serial, occasion, &locals, room)
+                self.handled(alloc, place.serial, &occasion, &locals, room)
             }
             None => Ok(()),
         }

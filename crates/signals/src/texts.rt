@@ -1,4 +1,4 @@
-ghost use Rattle.std.specs.Prelude.{◌≡◌, ◌++◌, map, OnOk, IfOk};
+ghost use Rattle.std.specs.Prelude.{◌≡◌, ◌++◌, map, string_bytes, OnOk, IfOk};
 ghost use Rattle.qml_ast.specs.TextForm.{text_of};
 ghost use Rattle.signals.specs.Endings.{Gives};
 ghost use Rattle.signals.specs.Values.{joined_texts, logged_text};
@@ -12,7 +12,7 @@ const MOST_BYTES: usize = 65_536;
 
 // Adds the text of a value.
 fn add_text(alloc: Global, value: &Value, joined: &mut String) -> Result<(), AllocError>
-    ensures { OnOk result (joined.new ≡ joined.old ++ text_of value.now) }
+    ensures { OnOk result (string_bytes joined.new ≡ string_bytes joined.old ++ text_of value.now) }
 {
     let text = to_text(alloc, value)?;
     joined.push_str(text.as_str())?;
@@ -21,7 +21,7 @@ fn add_text(alloc: Global, value: &Value, joined: &mut String) -> Result<(), All
 
 // The texts of values, with a space between each two.
 fn joined(alloc: Global, values: &[Value]) -> Result<String, AllocError>
-    ensures { IfOk result (λ joined. joined ≡ joined_texts (map text_of values.now)) }
+    ensures { IfOk result (λ joined. string_bytes joined ≡ joined_texts (map text_of values.now)) }
 {
     let mut joined = String::new(alloc);
     let [first, rest @ ..] = values else {

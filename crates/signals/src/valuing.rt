@@ -24,10 +24,10 @@ impl World {
     pub(crate) fn value(
         &self,
         e: &Expr,
-        at: Setting<'_>,
+        at: &Setting<'_>,
         locals: &Locals,
     ) -> Result<Value, Stop>
-        ensures { Gives (value_in at.site.now.frame self.now.objects locals.now e.now) result }
+        ensures { Gives (value_in at.now.site.now.frame self.now.objects locals.now e.now) result }
     {
         let reader = Settled {
             objects: &self.objects,
@@ -44,10 +44,10 @@ impl World {
     pub(crate) fn value_or_undefined(
         &self,
         e: Option<&Expr>,
-        at: Setting<'_>,
+        at: &Setting<'_>,
         locals: &Locals,
     ) -> Result<Value, Stop>
-        ensures { Gives (value_or_undefined at.site.now.frame self.now.objects locals.now (option_copied e)) result }
+        ensures { Gives (value_or_undefined at.now.site.now.frame self.now.objects locals.now (option_copied e.entry)) result }
     {
         match e {
             Some(e) => self.value(e, at, locals),
@@ -59,10 +59,10 @@ impl World {
     pub(crate) fn condition(
         &self,
         e: Option<&Expr>,
-        at: Setting<'_>,
+        at: &Setting<'_>,
         locals: &Locals,
     ) -> Result<Value, Stop>
-        ensures { Gives (condition_in at.site.now.frame self.now.objects locals.now (option_copied e)) result }
+        ensures { Gives (condition_in at.now.site.now.frame self.now.objects locals.now (option_copied e.entry)) result }
     {
         match e {
             Some(e) => self.value(e, at, locals),
