@@ -32,7 +32,7 @@ abbrev pub among : List Place → Place → Bool
 among ps q = list_any (λ p. are_same p q) ps
 
 -- ---- lists of places
-among_here : (p : Place) (ps : List Place) → among (p ∷ ps) p ≡ true
+pub among_here : (p : Place) (ps : List Place) → among (p ∷ ps) p ≡ true
 among_here p ps = rw (itself p) refl
 
 among_later : (p : Place) (ps : List Place) (q : Place) → among ps q ≡ true → among (p ∷ ps) q ≡ true
@@ -54,7 +54,7 @@ among_right : (ps qs : List Place) (q : Place) → among qs q ≡ true → among
 among_right [] qs q h = h
 among_right (p ∷ ps) qs q h = among_later p (ps ++ qs) q (among_right ps qs q h)
 
-among_filter : (test : Place → Bool) (ps : List Place) (q : Place) → among ps q ≡ true → test q ≡ true → among (filter test ps) q ≡ true
+pub among_filter : (test : Place → Bool) (ps : List Place) (q : Place) → among ps q ≡ true → test q ≡ true → among (filter test ps) q ≡ true
 among_filter test [] q h t = h
 among_filter test (p ∷ ps) q h t = by (are_same p q) refl (test p) refl (λ g. among_filter test ps q g t)
   where

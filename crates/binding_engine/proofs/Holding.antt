@@ -30,6 +30,7 @@ use Rattle.settling.proofs.Fulfilled.{settles_later}
 use Rattle.settling.proofs.Outcome.{settled_ends}
 use Rattle.object_tree.specs.declared.property.Binding.{Binding}
 use Rattle.object_tree.specs.declared.property.Held.{Held}
+use Rattle.object_tree.specs.Places.{places_of}
 use Rattle.object_tree.specs.Reading.{instance_at, binding_at, info_at, held_at}
 use Rattle.object_tree.specs.Store.{Store}
 use Rattle.object_tree.specs.Writing.{kept, marked as with_marks_at, ended}
@@ -38,7 +39,7 @@ use Rattle.binding_engine.specs.Holding.{value_in, meanings_of, taken_or_wrong, 
 use Rattle.binding_engine.specs.Settling.{settled_from, is_stopped, marks_of, valued, with_cell, with_cells, settled_store}
 use Rattle.binding_engine.specs.Standing.{Standing, space, one_place, kept_in, is_suspended_in, first_of, first}
 use Rattle.binding_engine.proofs.Covered.{among, equation_placed, equation_equated, first_covers, first_is_ready}
-use Rattle.binding_engine.proofs.Hollow.{hollowed, kept_hollow, marked_hollow, ended_hollow, same_equations}
+use Rattle.binding_engine.proofs.Hollow.{hollowed, kept_hollow, marked_hollow, ended_hollow, same_equations, same_places}
 use Rattle.binding_engine.proofs.Slots.{with_held_value, with_held_marks, kept_there, kept_beside, marked_there, marked_beside, ended_held}
 
 -- ---- values that are equal are one
@@ -414,6 +415,11 @@ module _ (store : Store) where
   pub equation_over : (q : Place) → equation over q ≡ equation store q
   unfolding settled_store
   equation_over q = same_equations over store (ended_hollow (with_cells cell (equated store) store) ∙ cells_hollow cell (equated store) store) q
+
+  -- it has the same places
+  pub places_over : places_of over ≡ places_of store
+  unfolding settled_store
+  places_over = same_places over store (ended_hollow (with_cells cell (equated store) store) ∙ cells_hollow cell (equated store) store)
 
   abbrev cell_values : Place → Value
   cell_values p = value_of (cell p)

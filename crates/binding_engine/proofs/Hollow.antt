@@ -1,8 +1,8 @@
 -- A store without what its places hold: what names stand for, and the expressions of places, depend on no more.
-use Rattle.std.proofs.Common.{◌≡◌, ℕ, zero, suc, ◌+◌, Bool, true, false, List, [], ◌∷◌, map, length, refl, sym, ap, ◌∙◌}
+use Rattle.std.proofs.Common.{◌≡◌, ℕ, zero, suc, ◌+◌, Bool, true, false, List, [], ◌∷◌, ◌++◌, map, length, refl, sym, ap, ◌∙◌}
 use Rattle.std.specs.Prelude.{Option, None, Some, is_some, option_and_then, option_map, if◌then◌else◌, ◌&&◌, slice_get, slice_set, nat_lt, ◌-◌, ◌^◌}
 use Rattle.std.specs.Option.{option_or}
-use Rattle.std.specs.Map.{lookup, set_value}
+use Rattle.std.specs.Map.{lookup, set_value, keys_of}
 use Rattle.std.specs.BTreeMap.{is_at}
 use Rattle.std.specs.Ordering.{nat_cmp}
 use Rattle.arena.specs.Arena.{thing_at, with_thing}
@@ -30,6 +30,7 @@ use Rattle.object_tree.specs.Growing.{context_at}
 use Rattle.object_tree.specs.Handlers.{method_numbered, function_of, callable_at}
 use Rattle.object_tree.specs.Looking.{member_named, member_in, member_of, or_none, id_found, member_at, root_of, root_member, found_here, found_in, global_named, looked_up}
 use Rattle.object_tree.specs.Names.{named}
+use Rattle.object_tree.specs.Places.{side_of, places_in_slot, places_from, places_in, places_under, places_of}
 use Rattle.object_tree.specs.Properties.{held_of, binding_of, with_value, with_marks, restarted}
 use Rattle.object_tree.specs.Reading.{instance_at, property_at, is_place, is_live, value_read, binding_at, info_in, info_at}
 use Rattle.object_tree.specs.Store.{Store}
@@ -314,6 +315,31 @@ module _ (store : Store) where
       (λ i. if asked has_owner (λ j. refl) q.serial i then equation_by bare q (bound q i) (is_shown q.side && placed (set_side q) i) else None)
       ∙ ap (λ (t : Option Tree). if has_owner (instance_at q.serial store) then t else None) (by_parts q (binding_at q store) (is_native q store))
 
--- stores that are alike but for what their places hold have the same expressions
+  -- there are the same places
+  slots_listed : (n k : ℕ) (ps : List Property) → places_from n k (map hollow_slot ps) ≡ places_from n k ps
+  slots_listed n k [] = refl
+  slots_listed n k (p ∷ ps) =
+      ap (λ (b : Bool). (if b then side_of n k Set ∷ side_of n k Shown ∷ [] else side_of n k Shown ∷ []) ++ places_from n (k + 1) (map hollow_slot ps)) (some_emptied p.set)
+      ∙ ap (λ qs. places_in_slot n k p ++ qs) (slots_listed n (k + 1) ps)
+
+  objects_listed : (ns : List ℕ) → places_under ns bare ≡ places_under ns store
+  objects_listed [] = refl
+  objects_listed (n ∷ ns) =
+      ap (λ ps. ps ++ places_under ns bare) (asked (places_in n) (λ i. slots_listed n 0 i.properties) n)
+      ∙ ap (λ qs. places_in n (instance_at n store) ++ qs) (objects_listed ns)
+
+  serials : (es : List (ℕ × Instance)) → keys_of (hollow_things es) ≡ keys_of es
+  serials [] = refl
+  serials (e ∷ es) = ap (λ ns. e.0 ∷ ns) (serials es)
+
+  pub listed : places_of bare ≡ places_of store
+  unfolding places_of
+  listed = ap (λ ns. places_under ns bare) (serials store.objects.things) ∙ objects_listed (keys_of store.objects.things)
+
+-- stores that are alike but for what their places hold have the same places
+pub same_places : (s t : Store) → hollowed s ≡ hollowed t → places_of s ≡ places_of t
+same_places s t same = sym (listed s) ∙ ap places_of same ∙ listed t
+
+-- and the same expressions
 pub same_equations : (s t : Store) → hollowed s ≡ hollowed t → (q : Place) → equation s q ≡ equation t q
 same_equations s t same q = sym (equations s q) ∙ ap (λ (x : Store). equation x q) same ∙ equations t q

@@ -10,3 +10,4 @@ pub mod Hollow
 pub mod Holding
 pub mod Chains
 pub mod Order
+pub mod Looped

@@ -1,5 +1,5 @@
 -- Equations that hold of a store, without any order of evaluation.
-use Rattle.std.specs.Prelude.{◌≡◌, Bool, true, false, not, ◌&&◌, ◌||◌, if◌then◌else◌, Option, None, Some, is_some, List, [], ◌∷◌, Result, Ok, Err}
+use Rattle.std.specs.Prelude.{◌≡◌, Bool, true, false, not, ◌&&◌, ◌||◌, if◌then◌else◌, Option, None, Some, is_some, List, [], ◌∷◌, filter, Result, Ok, Err}
 use Rattle.std.specs.List.{list_any}
 use Rattle.qml_ast.specs.declared.eval_fault.EvalFault.{EvalFault}
 use Rattle.qml_ast.specs.declared.eval_fault.EvalFault.TheVariants.{WrongKind}
@@ -14,6 +14,7 @@ use Rattle.expr_eval.specs.declared.answer.Eval.TheVariants as answer
 use Rattle.settling.specs.Loops.{has_loop, AreOnce}
 use Rattle.object_tree.specs.declared.property.Binding.{Binding}
 use Rattle.object_tree.specs.declared.property.Held.{Held}
+use Rattle.object_tree.specs.Places.{places_of}
 use Rattle.object_tree.specs.Reading.{instance_at, binding_at, info_at, held_at, value_read}
 use Rattle.object_tree.specs.Store.{Store}
 use Rattle.binding_engine.specs.Equations.{shape_of, taken_in, set_side, is_native, has_owner}
@@ -106,6 +107,10 @@ KeepsLast before store =
 -- the place is suspended in the one store and was not in the other
 abbrev pub is_newly_suspended : Store → Store → Place → Bool
 is_newly_suspended before store place = is_suspended_in (held_at place store) && not (is_suspended_in (held_at place before))
+
+-- the places that are suspended in the one store and were not in the other, in their order
+abbrev pub looped_in : Store → Store → List Place
+looped_in before store = filter (is_newly_suspended before store) (places_of store)
 
 -- These are the loops that were found: those of the places that were suspended, each once.
 pub record AreLoopsIn (before store : Store) (loops : List (Place × List Place)) : Type 0 where

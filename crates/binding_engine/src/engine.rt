@@ -1,9 +1,10 @@
 ghost use Rattle.std.specs.Prelude.{◌≡◌, map, IfOk, OnOk, IsSortedByKey};
 ghost use Rattle.settling.specs.Loops.{shown};
-ghost use Rattle.binding_engine.specs.Holding.{EquationsHold, KeepsLast, AreChainsIn, AreLoopsIn, mark_in};
+ghost use Rattle.binding_engine.specs.Holding.{EquationsHold, KeepsLast, AreChainsIn, AreLoopsIn, looped_in, mark_in};
 ghost use Rattle.binding_engine.specs.Findings.{changed_in, faulted_in, faulted_from, places_faulted, AreLoops};
 ghost use Rattle.qml_ast.specs.declared.place.Place.{Place};
 ghost use Rattle.object_tree.specs.Order.{AreRising};
+ghost use Rattle.object_tree.specs.Places.{places_of};
 ghost use Rattle.object_tree.specs.Reading.{held_at};
 ghost use Rattle.object_tree.specs.Store.{Store};
 ghost use Rattle.binding_engine.specs.Entries.{at, cell_of, with_entry_of, with_entries};
@@ -47,7 +48,7 @@ struct Stood {
 fn stand(alloc: Global, objects: &Objects) -> Result<Stood, AllocError>
     ensures places { IfOk result (λ stood. stood.places.items ≡ equated objects.now) }
     ensures stands { IfOk result (λ stood. (p : Place) → at (objects.now, stood.cells) p ≡ settled_from objects.now p) }
-    ensures rising { OnOk result (AreRising (equated objects.now)) }
+    ensures rising { OnOk result (AreRising (places_of objects.now)) }
     ensures loops { IfOk result (λ stood. AreLoops objects.now (map shown stood.loops.items)) }
     ensures ordered { IfOk result (λ stood. IsSortedByKey (λ found. found.place) ⟦<Place as Ord>⟧.cmp stood.loops.items) }
 {
@@ -147,6 +148,7 @@ fn settle_all(alloc: Global, objects: &mut Objects) -> Result<Settled, AllocErro
     ensures faulted { IfOk result (λ settled. settled.faulted.items ≡ faulted_from objects.old) }
     ensures changed_rise { IfOk result (λ settled. AreRising settled.changed.items) }
     ensures faulted_rise { IfOk result (λ settled. AreRising (places_faulted settled.faulted.items)) }
+    ensures rising { OnOk result (AreRising (places_of objects.old)) }
     ensures loops { IfOk result (λ settled. AreLoops objects.old (map shown settled.loops.items)) }
     ensures ordered { IfOk result (λ settled. IsSortedByKey (λ found. found.place) ⟦<Place as Ord>⟧.cmp settled.loops.items) }
 {
@@ -195,6 +197,7 @@ impl Engine {
         ensures changed_rise { IfOk result (λ settled. AreRising settled.changed.items) }
         ensures faulted_rise { IfOk result (λ settled. AreRising (places_faulted settled.faulted.items)) }
         ensures loops { IfOk result (λ settled. AreLoopsIn (resumed_by writes.now objects.old) objects.new (map shown settled.loops.items)) }
+        ensures looped { IfOk result (λ settled. map (λ found. found.place) settled.loops.items ≡ looped_in (resumed_by writes.now objects.old) objects.new) }
         ensures chains { IfOk result (λ settled. AreChainsIn objects.new (map shown settled.loops.items)) }
         ensures ordered { IfOk result (λ settled. IsSortedByKey (λ found. found.place) ⟦<Place as Ord>⟧.cmp settled.loops.items) }
     {

@@ -72,7 +72,7 @@ impl<'a> Present<'a> {
         ensures objects { IfOk result (λ present. present.objects.now ≡ objects.now) }
         ensures places { IfOk result (λ present. present.places.items ≡ equated objects.now) }
         ensures cells { IfOk result (λ present. present.cells ≡ first_entries objects.now (places_of objects.now)) }
-        ensures rising { OnOk result (AreRising (equated objects.now)) }
+        ensures rising { OnOk result (AreRising (places_of objects.now)) }
     {
         let all = objects.places(alloc)?;
         let cells = first_cells(alloc, objects, all.as_slice())?;

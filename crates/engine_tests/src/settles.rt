@@ -63,7 +63,7 @@ macro_rules! found {
 }
 
 // The document's root has the serial 2, and its first declared property is the slot 37.
-static CASES: [Case; 14] = [
+static CASES: [Case; 16] = [
     case!("Item { width: 3 }" => &[(set!(2, WIDTH), 3), (shown!(2, WIDTH), 3), (shown!(2, HEIGHT), 0)], &[], &[]),
     // two properties that read each other: the first one is stopped, and the other one has its value
     case!("Item { x: y + 1; y: x + 1 }" => &[(set!(2, X), 0), (shown!(2, X), 0), (set!(2, Y), 1), (shown!(2, Y), 1)],
@@ -98,6 +98,11 @@ static CASES: [Case; 14] = [
     case!("Item { property int a: b + 1; property int b: a + c; property int c: b }" =>
         &[(shown!(2, 37), 0), (shown!(2, 38), 0), (shown!(2, 39), 0)],
         &[found!(shown!(2, 37), &[shown!(2, 38)]), found!(shown!(2, 38), &[shown!(2, 39)])], &[]),
+    // a function of one `return` is called over the same places
+    case!("Item { width: 5; property int a: f(2) + 1; function f(n) { return n * width } }" => &[(shown!(2, 37), 11)], &[], &[]),
+    // one of two statements is no expression
+    case!("Item { property int a: f(); function f() { ; return 1 } }" => &[(shown!(2, 37), 0)], &[],
+        &[(shown!(2, 37), EvalFault::WrongKind)]),
     // a loop in a fault's shadow: the fault comes before the read that would close it
     case!("Item { property int a: 1 / 0 + b; property int b: a }" => &[(shown!(2, 37), 0), (shown!(2, 38), 0)], &[],
         &[(shown!(2, 37), EvalFault::ZeroDivisor)]),

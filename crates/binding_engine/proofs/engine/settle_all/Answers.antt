@@ -2,6 +2,9 @@ use Rattle.std.proofs.Common.{◌∙◌, List, sym, subst}
 use Rattle.qml_ast.specs.declared.eval_fault.EvalFault.{EvalFault}
 use Rattle.qml_ast.specs.declared.place.Place.{Place}
 use Rattle.object_tree.specs.Order.{AreRising}
+use Rattle.object_tree.specs.Places.{places_of}
+use Rattle.object_tree.proofs.Rising.{rising_filter}
+use Rattle.binding_engine.specs.Equations.{has_equation}
 use Rattle.binding_engine.specs.Findings.{places_faulted}
 use Rattle.binding_engine.proofs.Marking.{entries_faulted}
 use Rattle.binding_engine.proofs.Order.{faulted_rises}
@@ -20,4 +23,4 @@ returns-clause-faulted c =
 
 pub returns-clause-faulted_rise : goal.returns-clause-faulted_rise
 returns-clause-faulted_rise c =
-    subst (λ (fs : List (Place × EvalFault)). AreRising (places_faulted fs)) (sym (returns-clause-faulted c)) (faulted_rises c.args.objects.now c.in_ok-places.ensures.rising)
+    subst (λ (fs : List (Place × EvalFault)). AreRising (places_faulted fs)) (sym (returns-clause-faulted c)) (faulted_rises c.args.objects.now (rising_filter (has_equation c.args.objects.now) (places_of c.args.objects.now) c.in_ok-places.ensures.rising))

@@ -9,7 +9,10 @@ use Rattle.binding_engine.specs.Findings.{faulted_in}
 use Rattle.binding_engine.specs.Holding.{EquationsHold, KeepsLast, AreChainsIn, AreLoopsIn, mark_in}
 use Rattle.binding_engine.specs.Settling.{resumed_by, settled_store}
 use Rattle.binding_engine.proofs.Chains.{chains_over, loops_over, faults_over}
-use Rattle.binding_engine.proofs.Holding.{equations_hold, keeps_last}
+use Rattle.object_tree.specs.Order.{AreRising}
+use Rattle.object_tree.specs.Places.{places_of}
+use Rattle.binding_engine.proofs.Holding.{equations_hold, keeps_last, places_over}
+use Rattle.binding_engine.proofs.Looped.{loops_listed}
 use Rattle.binding_engine.proofs.engine.Engine.settle.Goals as goal
 
 -- what the settled store is
@@ -48,3 +51,10 @@ returns-clause-keeps c =
     let is : Whole c.end_settle.new.self c.resume_all.new.objects = c.end_settle.ensures ∙ ap ended c.in_ok-settled.ensures.store in
     subst (λ (b : Store). KeepsLast b c.end_settle.new.self) (c.resume_all.ensures ∙ ap (λ (ws : List Place). resumed_by ws c.args.objects.now) c.as_slice.ensures)
     (subst (λ (s : Store). KeepsLast c.resume_all.new.objects s) (sym is) (keeps_last c.resume_all.new.objects))
+
+pub returns-clause-looped : goal.returns-clause-looped
+returns-clause-looped c =
+    let is : Whole c.end_settle.new.self c.resume_all.new.objects = c.end_settle.ensures ∙ ap ended c.in_ok-settled.ensures.store in
+    let rises : AreRising (places_of c.end_settle.new.self) =
+    subst (λ (ps : List Place). AreRising ps) (sym (ap places_of is ∙ places_over c.resume_all.new.objects)) c.in_ok-settled.ensures.rising in
+    loops_listed (resumed_by c.args.writes.now c.args.objects.now) c.end_settle.new.self c.in_ok-settled.settled.loops.items rises (returns-clause-loops c) c.in_ok-settled.ensures.ordered
