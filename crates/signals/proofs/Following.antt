@@ -5,7 +5,7 @@ use Rattle.qml_ast.specs.declared.eval_fault.EvalFault.{EvalFault}
 use Rattle.qml_ast.specs.declared.eval_fault.EvalFault.TheVariants.{Overflow, ZeroDivisor, WrongKind, UnknownName, NullMember, TooMuch, TextTooLong, ReadOnly, NoMemory as NoMemoryFault}
 use Rattle.expr_eval.specs.declared.locals.NamedLocal.{NamedLocal}
 use Rattle.signals.specs.Assigning.{then_with}
-use Rattle.signals.specs.Endings.{Ending, Flowing, Doing, after, followed, going, with_value, Ends, Leaves, Gives}
+use Rattle.signals.specs.Endings.{Ending, Flowing, Doing, after, followed, going, with_value, Ends, Leaves, Gives, stop_of}
 use Rattle.signals.specs.declared.ending.Flow.{Flow}
 use Rattle.signals.specs.declared.ending.Halt.{Halt}
 use Rattle.signals.specs.declared.ending.Halt.TheVariants.{Budget, TooDeep, NoMemory}
@@ -45,3 +45,15 @@ pub stops_after : (o : Ending) (next : World → Ending) (halt : Halt) (w : Worl
 stops_after o next Budget w h = rw h refl
 stops_after o next TooDeep w h = rw h refl
 stops_after o next NoMemory w h = tt
+
+-- a fault of a value that code gives, but for want of memory
+pub lifts : {A : Type 0} (expected : Result A EvalFault) (f : EvalFault) → (◌≢◌ {A = Result A EvalFault} (Err f) (Err NoMemoryFault) → ◌≡◌ {A = Result A EvalFault} (Err f) expected) → Gives expected (Err (stop_of f))
+lifts expected Overflow h = sym (h (λ e. cc))
+lifts expected ZeroDivisor h = sym (h (λ e. cc))
+lifts expected WrongKind h = sym (h (λ e. cc))
+lifts expected UnknownName h = sym (h (λ e. cc))
+lifts expected NullMember h = sym (h (λ e. cc))
+lifts expected TooMuch h = sym (h (λ e. cc))
+lifts expected TextTooLong h = sym (h (λ e. cc))
+lifts expected ReadOnly h = sym (h (λ e. cc))
+lifts expected NoMemoryFault h = tt

@@ -1,1 +1,6 @@
-pub mod Following
+mod Assigned
+mod Begun
+mod Each
+mod Following
+mod Rooms
+mod Turns

@@ -84,16 +84,16 @@ aimed_place (aim.At place) = Ok place
 aimed_place (aim.Needs place) = Err WrongKind
 aimed_place (aim.Faulted fault) = Err fault
 
-abbrev pub at_place : Place → Result Value EvalFault → Result (Place × Value) EvalFault
-at_place place (Ok v) = Ok (place, v)
-at_place place (Err fault) = Err fault
+-- where a slot is set, with the value as it takes it
+abbrev pub placed : Place → Store → Value → Result (Place × Value) EvalFault
+placed place store v = then_with (writable place store v) (λ t. Ok (place, t))
 
 -- what is written, and where: the target is found first, then the old value where one is asked for, and then the one on the right
 unfoldable pub assignment : Aim → AssignOp → Result Value EvalFault → Store → Result (Place × Value) EvalFault
 assignment target op right store =
     then_with (aimed_place target) (λ place.
     then_with (combined op (Ok (value_or_null place store)) right) (λ v.
-    at_place (set_place place store) (writable (set_place place store) store v)))
+    placed (set_place place store) store v))
 
 -- ---- what stands on the right
 abbrev pub right_in : Frame → Store → List NamedLocal → Right → Result Value EvalFault

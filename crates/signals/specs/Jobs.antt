@@ -1,20 +1,19 @@
 -- What handlers and methods run, and with which locals.
-use Rattle.std.specs.Prelude.{ℕ, Bool, true, false, ◌&&◌, if◌then◌else◌, is_none, List, [], ◌∷◌, ◌++◌, map, filter, take, drop, Option, None, Some, Result, Ok, Err, bytes_eq, codes}
-use Rattle.std.specs.List.{list_any}
+use Rattle.std.specs.Prelude.{ℕ, Bool, true, false, ◌&&◌, ◌||◌, if◌then◌else◌, is_none, List, [], ◌∷◌, ◌++◌, length, map, filter, take, drop, Option, None, Some, Result, Ok, Err, bytes_eq, codes, slice_get}
 use Rattle.qml_ast.specs.declared.eval_fault.EvalFault.{EvalFault}
-use Rattle.qml_ast.specs.declared.eval_fault.EvalFault.TheVariants.{WrongKind}
 use Rattle.qml_ast.specs.declared.path.Path.{Path}
 use Rattle.qml_ast.specs.declared.value.Value.{Value}
 use Rattle.qml_ast.specs.declared.value.Value.TheVariants.{Int}
 use Rattle.type_table.specs.declared.slot.Kind.{Kind}
 use Rattle.type_table.specs.declared.slot.Kind.TheVariants as kind
-use Rattle.qml_types.specs.Scope.{signals_for, begins_upper, with_lower}
+use Rattle.qml_types.specs.Scope.{begins_upper, with_lower}
 use Rattle.expr_eval.specs.Names.{declared, bound}
 use Rattle.expr_eval.specs.declared.locals.Local.TheVariants.{Plain, Mouse}
 use Rattle.expr_eval.specs.declared.locals.NamedLocal.{NamedLocal}
 use Rattle.object_tree.specs.Handlers.{Handler, Method}
 use Rattle.object_tree.specs.Store.{Store}
 use Rattle.object_tree.specs.Taking.{taken}
+use Rattle.signals.specs.Assigning.{then_with, taken_or_wrong}
 use Rattle.signals.specs.declared.job.Body.TheVariants as body
 use Rattle.signals.specs.declared.jobs.Occasion.{Occasion}
 use Rattle.signals.specs.declared.jobs.Occasion.TheVariants.{Signal, Completion}
@@ -22,9 +21,18 @@ use Rattle.signals.specs.declared.job.Job.{Job}
 use Rattle.signals.specs.declared.job.Site.{Site}
 
 -- ---- handlers
+-- the name after `on`, where an upper-case letter begins it
+abbrev pub handled_name : List ℕ → Option (List ℕ)
+handled_name name = if bytes_eq (take 2 name) (codes "on") && begins_upper (drop 2 name) then Some (drop 2 name) else None
+
+-- the name is this one, with its first letter as it is or in lower case
+abbrev pub is_told_by : List ℕ → Option (List ℕ) → Bool
+is_told_by name None = false
+is_told_by name (Some handled) = bytes_eq name (with_lower handled) || bytes_eq name handled
+
 -- a handler of that path handles a signal of this name
 unfoldable pub handles_signal : List ℕ → Path → Bool
-handles_signal name path = is_none path.second && list_any (bytes_eq name) (signals_for path.first)
+handles_signal name path = is_none path.second && is_told_by name (handled_name path.first)
 
 abbrev pub is_named : List ℕ → Option (List ℕ) → Bool
 is_named name None = false
@@ -62,32 +70,19 @@ signal_locals None args = mouse_locals args
 signal_locals (Some params) args = with_params params args []
 
 -- ---- the arguments of a signal
--- a parameter's kind; the arguments of built-in signals are numbers
-abbrev pub kind_in : Option (List Kind) → Kind
-kind_in None = kind.Int
-kind_in (Some []) = kind.Var
-kind_in (Some (k ∷ _)) = k
-
-abbrev pub kinds_behind : Option (List Kind) → Option (List Kind)
-kinds_behind None = None
-kinds_behind (Some []) = Some []
-kinds_behind (Some (_ ∷ kinds)) = Some kinds
+-- the kind of the parameter of that number; the arguments of built-in signals are numbers
+abbrev pub kind_at : Option (List (List ℕ × Kind)) → ℕ → Kind
+kind_at None at = kind.Int
+kind_at (Some params) at = elim (slice_get params at) [ None ↦ kind.Var | Some param ↦ param.1 ]
 
 -- each argument as its parameter's kind takes it, after those that are done; what one of them does not take is a fault
-abbrev pub taken_from : Store → List Value → Option (List Kind) → List Value → Result (List Value) EvalFault
-taken_from store done kinds [] = Ok done
-taken_from store done kinds (arg ∷ args) = with_taken (taken store (kind_in kinds) arg) (λ v. taken_from store (done ++ v ∷ []) (kinds_behind kinds) args)
-  where
-    with_taken : Option Value → (Value → Result (List Value) EvalFault) → Result (List Value) EvalFault
-    with_taken None next = Err WrongKind
-    with_taken (Some v) next = next v
-
-abbrev pub kinds_of : Option (List (List ℕ × Kind)) → Option (List Kind)
-kinds_of None = None
-kinds_of (Some params) = Some (map (λ p. p.1) params)
+abbrev pub taken_from : Store → Option (List (List ℕ × Kind)) → List Value → List Value → Result (List Value) EvalFault
+taken_from store params done [] = Ok done
+taken_from store params done (arg ∷ args) =
+    then_with (taken_or_wrong (taken store (kind_at params (length done)) arg)) (λ v. taken_from store params (done ++ v ∷ []) args)
 
 abbrev pub taken_arguments : Store → Option (List (List ℕ × Kind)) → List Value → Result (List Value) EvalFault
-taken_arguments store params args = taken_from store [] (kinds_of params) args
+taken_arguments store params args = taken_from store params [] args
 
 -- ---- methods
 -- a method runs where its names are looked up; its notes stand where those of its caller stand
@@ -102,11 +97,3 @@ method_job site m args = record {
 abbrev pub handles : Occasion → Path → Bool
 handles (Signal name) path = handles_signal name.now path
 handles Completion path = handles_completion path
-
--- the name after `on`, where an upper-case letter begins it
-abbrev pub handled_name : List ℕ → Option (List ℕ)
-handled_name name = if bytes_eq (take 2 name) (codes "on") && begins_upper (drop 2 name) then Some (drop 2 name) else None
-
--- the other name is this one, which an upper-case letter begins, with that in lower case
-abbrev pub is_lowered : List ℕ → List ℕ → Bool
-is_lowered upper name = bytes_eq name (with_lower upper)

@@ -24,6 +24,7 @@ use Rattle.expr_eval.specs.Names.{local_named, declared, assigned, assignable}
 use Rattle.expr_eval.specs.Needs.{every}
 use Rattle.expr_eval.specs.declared.answer.Called.{Called}
 use Rattle.expr_eval.specs.declared.answer.Called.TheVariants as call
+use Rattle.expr_eval.specs.declared.found.Frame.{Frame}
 use Rattle.expr_eval.specs.declared.locals.Local.TheVariants.{Plain}
 use Rattle.expr_eval.specs.declared.locals.NamedLocal.{NamedLocal}
 use Rattle.object_tree.specs.Changes.{value_or_null}
@@ -37,7 +38,7 @@ use Rattle.signals.specs.Assigning.{local_target, held_value, combined, assignme
 use Rattle.signals.specs.Endings.{Ending, Handle, Flowing, Doing, ended, each, on, stopped, followed, going, with_value}
 use Rattle.signals.specs.Jobs.{handles_signal, jobs_where, signal_locals, taken_arguments, method_job}
 use Rattle.signals.specs.Noting.{changes_of, settled_by, with_written, noted, with_fault_note, limited}
-use Rattle.signals.specs.Values.{value_in, value_or_undefined, condition_in, logged_text}
+use Rattle.signals.specs.Values.{value_in, value_or_undefined, holds_in, condition_in, logged_text}
 use Rattle.signals.specs.declared.ending.Flow.TheVariants.{Returned}
 use Rattle.signals.specs.declared.ending.Halt.TheVariants.{Budget, TooDeep}
 use Rattle.signals.specs.declared.ending.Stop.TheVariants.{Fault, Halted}
@@ -48,6 +49,50 @@ use Rattle.signals.specs.declared.job.Site.{Site}
 use Rattle.signals.specs.declared.world.Event.{Event}
 use Rattle.signals.specs.declared.world.Event.TheVariants.{Restart}
 use Rattle.signals.specs.declared.world.World.{World}
+
+-- ---- assignments to locals
+abbrev pub local_assigned : Result (Unit {0}) EvalFault → List ℕ → Value → Doing
+local_assigned (Ok u) name v w locals = on w (assigned name v locals)
+local_assigned (Err fault) name v w locals = stopped (Fault fault) w locals
+
+abbrev pub to_local : List ℕ → AssignOp → Result Value EvalFault → Doing
+to_local name op right w locals =
+    with_value (combined op (held_value (local_named name locals)) right) w locals (λ v. local_assigned (assignable name locals) name v w locals)
+
+-- ---- parts of statements
+abbrev pub is_fixed_word : LocalWord → Bool
+is_fixed_word Var = false
+is_fixed_word Let = false
+is_fixed_word Const = true
+
+abbrev pub part : Option Doing → Doing
+part None = on
+part (Some doing) = doing
+
+abbrev pub in_order : List Doing → Doing
+in_order [] w locals = on w locals
+in_order (doing ∷ rest) w locals = followed (doing w locals) (in_order rest)
+
+abbrev pub chosen : Bool → Doing → Option Doing → Doing
+chosen holds first otherwise w locals = if holds then first w locals else part otherwise w locals
+
+-- so many turns of a loop at most: while the condition holds, the body and then the step
+abbrev pub turns : Frame → Option Expr → Doing → ℕ → Doing
+turns frame test turn zero w locals = stopped (Halted Budget) w locals
+turns frame test turn (suc more) w locals =
+    with_value (condition_in frame w.objects locals test) w locals
+    (λ holds. if holds then followed (turn w locals) (turns frame test turn more) else on w locals)
+
+-- each turn begins a statement, of which no more than are left begin
+unfoldable pub looped : Frame → Option Expr → Doing → Doing
+looped frame test turn w locals = turns frame test turn (suc w.left) w locals
+
+abbrev pub turn_of : Doing → Option Doing → Doing
+turn_of first step w locals = followed (first w locals) (part step)
+
+-- a statement begins, unless none is left in this move
+abbrev pub begun : Site → World → Ending
+begun site w = if nat_eq w.left 0 then (Err Budget, limited site limit.Statements w) else ended (record w { left = w.left - 1 })
 
 -- ---- a timer's `running`
 abbrev pub place_of : ℕ → Slot → Place
@@ -134,14 +179,6 @@ module _ (handle : Handle) where
     done_step e _ w locals = with_value (value_in site.frame w.objects locals e) w locals (λ v. on w locals)
 
     -- ---- assignments
-    abbrev pub local_assigned : Result (Unit {0}) EvalFault → List ℕ → Value → Doing
-    local_assigned (Ok u) name v w locals = on w (assigned name v locals)
-    local_assigned (Err fault) name v w locals = stopped (Fault fault) w locals
-
-    abbrev pub to_local : List ℕ → AssignOp → Result Value EvalFault → Doing
-    to_local name op right w locals =
-        with_value (combined op (held_value (local_named name locals)) right) w locals (λ v. local_assigned (assignable name locals) name v w locals)
-
     abbrev pub assigned_by : Option (List ℕ) → Expr → AssignOp → Result Value EvalFault → Doing
     assigned_by (Some name) target op right w locals = to_local name op right w locals
     assigned_by None target op right w locals =
@@ -152,36 +189,6 @@ module _ (handle : Handle) where
     assigned_to target op right w locals = assigned_by (local_target target locals) target op right w locals
 
     -- ---- the forms of statements
-    abbrev pub is_fixed_word : LocalWord → Bool
-    is_fixed_word Var = false
-    is_fixed_word Let = false
-    is_fixed_word Const = true
-
-    abbrev pub part : Option Doing → Doing
-    part None = on
-    part (Some doing) = doing
-
-    abbrev pub in_order : List Doing → Doing
-    in_order [] w locals = on w locals
-    in_order (doing ∷ rest) w locals = followed (doing w locals) (in_order rest)
-
-    abbrev pub chosen : Value → Doing → Option Doing → Doing
-    chosen v first otherwise w locals = if truth_of v then first w locals else part otherwise w locals
-
-    -- so many turns of a loop at most: while the condition holds, the body and then the step
-    abbrev pub turns : Option Expr → Doing → ℕ → Doing
-    turns test turn zero w locals = stopped (Halted Budget) w locals
-    turns test turn (suc more) w locals =
-        with_value (condition_in site.frame w.objects locals test) w locals
-        (λ v. if truth_of v then followed (turn w locals) (turns test turn more) else on w locals)
-
-    -- each turn begins a statement, of which no more than are left begin
-    unfoldable pub looped : Option Expr → Doing → Doing
-    looped test turn w locals = turns test turn (suc w.left) w locals
-
-    abbrev pub turn_of : Doing → Option Doing → Doing
-    turn_of first step w locals = followed (first w locals) (part step)
-
     abbrev pub visit : Stmt-F Doing → Doing
     visit (Stmt-F.Local word name e) w locals =
         with_value (value_or_undefined site.frame w.objects locals e) w locals (λ v. on w (declared name (Plain v) (is_fixed_word word) locals))
@@ -191,17 +198,15 @@ module _ (handle : Handle) where
     visit (Stmt-F.Block doings) w locals = in_order doings w locals
     visit Stmt-F.Empty w locals = on w locals
     visit (Stmt-F.If e first otherwise) w locals =
-        with_value (value_in site.frame w.objects locals e) w locals (λ v. chosen v first otherwise w locals)
-    visit (Stmt-F.While e turn) w locals = looped (Some e) (turn_of turn None) w locals
-    visit (Stmt-F.For first test step turn) w locals = followed (part first w locals) (looped test (turn_of turn step))
+        with_value (holds_in site.frame w.objects locals e) w locals (λ holds. chosen holds first otherwise w locals)
+    visit (Stmt-F.While e turn) w locals = looped site.frame (Some e) (turn_of turn None) w locals
+    visit (Stmt-F.For first test step turn) w locals = followed (part first w locals) (looped site.frame test (turn_of turn step))
     visit (Stmt-F.Return e) w locals =
         with_value (value_or_undefined site.frame w.objects locals e) w locals (λ v. (Ok Returned, (w, locals)))
 
     -- Each statement counts when it begins.
     abbrev pub step : Stmt-F Doing → Doing
-    step statement w locals =
-        if nat_eq w.left 0 then stopped (Halted Budget) (limited site limit.Statements w) locals
-        else visit statement (record w { left = w.left - 1 }) locals
+    step statement w locals = followed (going (begun site w) locals) (visit statement)
 
     unfoldable pub exec : Stmt → Doing
     exec = fold-Stmt Doing step
@@ -215,7 +220,7 @@ ended_as site (Err (Halted halt), s) = (Err halt, s.0)
 -- a handler's statement, or a method's statements
 abbrev pub body_done : Handle → Site → Body → Doing
 body_done handle site (body.Handler statement) = exec handle site statement
-body_done handle site (body.Method statements) = in_order handle site (map (exec handle site) statements)
+body_done handle site (body.Method statements) = in_order (map (exec handle site) statements)
 
 -- what runs a handler, where so many may nest in each other from it on
 unfoldable pub handle : ℕ → Handle

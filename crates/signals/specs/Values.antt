@@ -1,12 +1,12 @@
 -- The values of the expressions in handlers.
-use Rattle.std.specs.Prelude.{ℕ, pos, nat_lt, Bool, true, if◌then◌else◌, List, [], ◌∷◌, ◌++◌, length, map, Option, None, Some, Result, Ok, Err, codes}
+use Rattle.std.specs.Prelude.{ℕ, pos, nat_lt, Bool, true, if◌then◌else◌, List, [], ◌∷◌, ◌++◌, length, map, fold, Option, None, Some, Result, Ok, Err, codes}
 use Rattle.qml_ast.specs.Arithmetic.{truth_of}
 use Rattle.qml_ast.specs.TextForm.{text_of}
 use Rattle.qml_ast.specs.declared.eval_fault.EvalFault.{EvalFault}
 use Rattle.qml_ast.specs.declared.eval_fault.EvalFault.TheVariants.{WrongKind, TextTooLong}
 use Rattle.qml_ast.specs.declared.expr.Expr.{Expr}
 use Rattle.qml_ast.specs.declared.value.Value.{Value}
-use Rattle.qml_ast.specs.declared.value.Value.TheVariants.{Bool as Flag, Line}
+use Rattle.qml_ast.specs.declared.value.Value.TheVariants.{Line}
 use Rattle.expr_eval.specs.Needs.{value_and_reads}
 use Rattle.expr_eval.specs.declared.answer.Eval.{Eval}
 use Rattle.expr_eval.specs.declared.answer.Eval.TheVariants as answer
@@ -33,20 +33,28 @@ abbrev pub value_or_undefined : Frame → Store → List NamedLocal → Option E
 value_or_undefined frame store locals None = Ok undefined
 value_or_undefined frame store locals (Some e) = value_in frame store locals e
 
+-- whether an expression's value is true, or its fault
+abbrev pub truth_or_fault : Result Value EvalFault → Result Bool EvalFault
+truth_or_fault (Ok v) = Ok (truth_of v)
+truth_or_fault (Err fault) = Err fault
+
+abbrev pub holds_in : Frame → Store → List NamedLocal → Expr → Result Bool EvalFault
+holds_in frame store locals e = truth_or_fault (value_in frame store locals e)
+
 -- a condition that may be left out, and holds then
-abbrev pub condition_in : Frame → Store → List NamedLocal → Option Expr → Result Value EvalFault
-condition_in frame store locals None = Ok (Flag true)
-condition_in frame store locals (Some e) = value_in frame store locals e
+abbrev pub condition_in : Frame → Store → List NamedLocal → Option Expr → Result Bool EvalFault
+condition_in frame store locals None = Ok true
+condition_in frame store locals (Some e) = holds_in frame store locals e
 
 -- ---- what is logged
--- texts joined by one space
-abbrev pub spaced : List ℕ → List (List ℕ) → List ℕ
-spaced text [] = text
-spaced text (next ∷ texts) = text ++ (codes " " ++ spaced next texts)
+-- one text more, after a space
+abbrev pub with_text : List ℕ → List ℕ → List ℕ
+with_text text next = text ++ (codes " " ++ next)
 
+-- texts with a space between each two
 abbrev pub joined_texts : List (List ℕ) → List ℕ
 joined_texts [] = []
-joined_texts (text ∷ texts) = spaced text texts
+joined_texts (text ∷ texts) = fold with_text text texts
 
 -- the texts of values, which are at most 65,536 bytes together
 abbrev pub logged_text : List Value → Result (List ℕ) EvalFault

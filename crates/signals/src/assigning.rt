@@ -1,11 +1,12 @@
-ghost use Rattle.std.specs.Prelude.{◌≡◌, [], option_copied};
+ghost use Rattle.std.specs.Prelude.{◌≡◌, ◌≢◌, [], Ok, Err, option_copied};
 ghost use Rattle.expr_eval.specs.Statements.{aimed};
 ghost use Rattle.expr_eval.specs.Needs.{every};
 ghost use Rattle.object_tree.specs.Settled.{meanings};
-ghost use Rattle.signals.specs.Assigning.{local_target, held_value, compound, combined, set_place, writable, aimed_place, assignment, right_in};
+ghost use Rattle.signals.specs.Assigning.{local_target, held_value, compound, combined, set_place, writable, aimed_place, placed, assignment, right_in};
 ghost use Rattle.signals.specs.Endings.{Gives, Leaves};
 ghost use Rattle.signals.specs.Running.{to_local};
 ghost use Rattle.expr_eval.specs.Names.{local_named};
+ghost use Rattle.qml_ast.specs.declared.eval_fault.EvalFault.TheVariants as EvalFault;
 
 use crate::ending::{Flow, Stop};
 use crate::valuing::Setting;
@@ -38,7 +39,7 @@ pub(crate) fn local_target<'a>(target: &'a Expr, locals: &Locals) -> Option<&'a 
 
 // The value that comes of an old one and the one on the right.
 fn compound(alloc: Global, op: AssignOp, old: &Value, right: Value) -> Result<Value, EvalFault>
-    ensures { result ≡ compound op old.now right }
+    ensures { result ≢ Err EvalFault.NoMemory → result ≡ compound op old.now right }
 {
     match op {
         AssignOp::Set => Ok(right),
@@ -83,7 +84,7 @@ impl World {
         at: &Setting<'_>,
         locals: &mut Locals,
     ) -> Result<Flow, Stop>
-        ensures { Leaves (to_local at.now.site.now name.now op (right_in at.now.site.now.frame self.now.objects locals.old right.entry) self.now locals.old) result self.now locals.new }
+        ensures { Leaves (to_local name.now op (right_in at.now.site.now.frame self.now.objects locals.old right.entry) self.now locals.old) result self.now locals.new }
     {
         let value = self.local_value(name, op, right, at, locals)?;
         locals.assign(name, value)?;
@@ -154,8 +155,17 @@ impl World {
         Ok(self.objects.take(alloc, info.kind, value)?)
     }
 
+    // Where a slot is set, with the value as it takes it.
+    #[tactic(auto, using(crate::proofs::Following::stops_then))]
+    fn placed(&self, alloc: Global, place: Place, value: Value) -> Result<(Place, Value), Stop>
+        ensures { Gives (placed place self.now.objects value) result }
+    {
+        let value = self.writable(alloc, place, value)?;
+        Ok((place, value))
+    }
+
     /// What an assignment writes to a place, and where.
-    #[tactic(auto, unfolding(crate::specs::Assigning::assignment))]
+    #[tactic(auto, using(crate::proofs::Following::stops_then), unfolding(crate::specs::Assigning::assignment))]
     pub(crate) fn assignment(
         &self,
         target: &Expr,
@@ -169,8 +179,6 @@ impl World {
         let place = self.aimed(target, at, locals)?;
         let old = self.objects.value_or_null(place);
         let value = self.combined(op, old, right, at, locals)?;
-        let place = self.set_place(place);
-        let value = self.writable(at.alloc, place, value)?;
-        Ok((place, value))
+        self.placed(at.alloc, self.set_place(place), value)
     }
 }

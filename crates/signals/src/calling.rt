@@ -49,7 +49,8 @@ impl World {
 
     /// Notes the texts of values.
     pub(crate) fn log(&mut self, alloc: Global, values: &[Value]) -> Result<Flow, Stop>
-        ensures { (locals : List NamedLocal) → Leaves (with_value (logged_text values.now) self.old locals (λ text. on (noted (log_text text) self.old) locals)) result self.new locals }
+        ensures left { self.new.left ≡ self.old.left }
+        ensures runs { (locals : List NamedLocal) → Leaves (with_value (logged_text values.now) self.old locals (λ text. on (noted (log_text text) self.old) locals)) result self.new locals }
     {
         let text = logged_text(alloc, values)?;
         self.notes.line(&Note::Log(&text))?;
@@ -68,7 +69,8 @@ impl World {
 
     /// Adds that a timer which runs begins anew.
     pub(crate) fn note_restart(&mut self, of: u64) -> Result<(), AllocError>
-        ensures { OnOk result (self.new ≡ with_event (Restart of) self.old) }
+        ensures added { OnOk result (self.new ≡ with_event (Restart of) self.old) }
+        ensures left { self.new.left ≡ self.old.left }
     {
         self.events.push(Event::Restart(of))?;
         Ok(())

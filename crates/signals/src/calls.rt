@@ -1,6 +1,7 @@
 ghost use Rattle.std.specs.Prelude.{◌≡◌, IfOk};
-ghost use Rattle.signals.specs.Calls.{fresh_world, moved, ran_of, react_ran, write_ran, emit_ran, complete_ran};
-ghost use Rattle.signals.specs.Endings.{Ending, Ends};
+ghost use Rattle.signals.specs.Calls.{top, fresh_world, moved, ran_of, unless_dropped, react_ran, write_ran, emit_ran, complete_ran};
+ghost use Rattle.signals.specs.Endings.{Ending, Ends, each};
+ghost use Rattle.signals.specs.Running.{change_told};
 
 use crate::ending::{Halt, Ran};
 use crate::jobs::Occasion;
@@ -57,7 +58,9 @@ impl World {
     }
 
     // Runs the handlers of these places' changes, unless a limit was met before.
-    fn tell(&mut self, alloc: Global, changed: &[Place]) -> Result<Ran, AllocError> {
+    fn tell(&mut self, alloc: Global, changed: &[Place]) -> Result<Ran, AllocError>
+        ensures { IfOk result (λ ran. (ran, self.new) ≡ unless_dropped (each (change_told top) changed.now) self.old) }
+    {
         if self.dropped {
             return Ok(Ran::Ended);
         }

@@ -53,12 +53,12 @@ fn event_at(objects: &Objects, place: Place) -> Option<Event>
 // Adds what a place tells that shows another value.
 fn add_event(
     objects: &Objects,
-    place: Place,
+    place: &Place,
     events: &mut Items<Event>,
 ) -> Result<(), AllocError>
-    ensures { OnOk result (events.new ≡ events.old ++ event_at objects.now place) }
+    ensures { OnOk result (events.new ≡ events.old ++ event_at objects.now place.now) }
 {
-    match event_at(objects, place) {
+    match event_at(objects, *place) {
         Some(event) => {
             events.push(event)?;
             Ok(())
@@ -76,7 +76,7 @@ pub(crate) fn add_events(
     ensures { OnOk result (events.new ≡ events.old ++ flat_map (event_at objects.now) changed.now) }
 {
     for place in changed {
-        add_event(objects, *place, events)?;
+        add_event(objects, place, events)?;
     }
     Ok(())
 }

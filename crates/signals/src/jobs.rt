@@ -1,8 +1,11 @@
-ghost use Rattle.std.specs.Prelude.{◌≡◌, ◌++◌, [], codes, option_map, option_copied, string_bytes, IfOk};
+ghost use Rattle.std.specs.Prelude.{◌≡◌, ◌++◌, [], true, codes, bytes_eq, IfSome, option_map, option_copied, string_bytes, IfOk};
+ghost use Rattle.signals.specs.Assigning.{taken_or_wrong};
 ghost use Rattle.signals.specs.Endings.{Gives};
-ghost use Rattle.signals.specs.Jobs.{handles_signal, handles_completion, job_of, jobs_where, handled_name, is_lowered, kinds_of, with_params, mouse_locals, signal_locals, taken_from, taken_arguments, method_job, handles};
+ghost use Rattle.object_tree.specs.Taking.{taken};
+ghost use Rattle.signals.specs.Jobs.{handles_signal, handles_completion, job_of, jobs_where, handled_name, kind_at, with_params, mouse_locals, signal_locals, taken_arguments, method_job, handles};
 ghost use Rattle.object_tree.specs.Handlers.{handler_seen, handlers_at, signal_params_at, signal_name_at, method_at};
 ghost use Rattle.object_tree.specs.Origins.{path_at};
+ghost use Rattle.qml_types.specs.Scope.{begins_upper, with_lower};
 
 use crate::ending::Stop;
 use crate::job::{Body, Job, Site};
@@ -25,7 +28,8 @@ pub(crate) enum Occasion<'a> {
 
 // The name of what a handler handles, after its `on`.
 fn handled_name(handler: &str) -> Option<&str>
-    ensures { option_copied result ≡ handled_name handler.now }
+    ensures name { option_copied result ≡ handled_name handler.now }
+    ensures upper { IfSome result (λ name. begins_upper name.now ≡ true) }
 {
     let name = handler.strip_prefix("on")?;
     match name.as_bytes() {
@@ -34,16 +38,14 @@ fn handled_name(handler: &str) -> Option<&str>
     }
 }
 
-// Whether the names are the same but for the first letter, of which the one is an upper-case one and the other the same
-// in lower case.
-fn is_lowered(upper: &[u8], name: &[u8]) -> bool
-    ensures { result ≡ is_lowered upper.now name.now }
+// Whether the name is this one, which an upper-case letter begins, with that letter in lower case.
+fn is_lowered(name: &[u8], upper: &[u8]) -> bool
+    requires { begins_upper upper.now ≡ true }
+    ensures { result ≡ bytes_eq name.now (with_lower upper.now) }
 {
-    match (upper, name) {
-        ([first, rest @ ..], [other, others @ ..]) => {
-            first.to_ascii_lowercase() == *other && rest == others
-        }
-        _ => false,
+    match name {
+        [first, rest @ ..] => *first == upper[0] + 32 && rest == &upper[1..],
+        [] => false,
     }
 }
 
@@ -56,7 +58,7 @@ fn handles_signal(name: &str, path: &Path) -> bool
         return false;
     }
     match handled_name(path.first.as_str()) {
-        Some(handled) => handled == name || is_lowered(handled.as_bytes(), name.as_bytes()),
+        Some(handled) => is_lowered(name.as_bytes(), handled.as_bytes()) || name == handled,
         None => false,
     }
 }
@@ -201,7 +203,9 @@ pub(crate) fn change_name(
 }
 
 // The kind of a signal's parameter of that number; those of built-in signals are numbers.
-fn param_kind(params: Option<&[(Name, Kind)]>, number: usize) -> Kind {
+fn param_kind(params: Option<&[(Name, Kind)]>, number: usize) -> Kind
+    ensures { result ≡ kind_at (option_copied params.entry) number }
+{
     match params {
         Some(params) => match params.get(number) {
             Some(param) => param.1,
@@ -211,7 +215,22 @@ fn param_kind(params: Option<&[(Name, Kind)]>, number: usize) -> Kind {
     }
 }
 
+// An argument as the parameter of that number takes it. WrongKind where it is not taken.
+fn taken_argument(
+    alloc: Global,
+    objects: &Objects,
+    params: Option<&[(Name, Kind)]>,
+    number: usize,
+    argument: &Value,
+) -> Result<Value, Stop>
+    ensures { Gives (taken_or_wrong (taken objects.now (kind_at (option_copied params.entry) number) argument.now)) result }
+{
+    let argument = argument.copy(alloc)?;
+    Ok(objects.take(alloc, param_kind(params, number), argument)?)
+}
+
 /// The arguments of an object's signal as its parameters take them. WrongKind where one of them is not taken.
+#[tactic(auto, using(crate::proofs::Following::stops_then))]
 pub(crate) fn taken_arguments(
     alloc: Global,
     objects: &Objects,
@@ -224,8 +243,7 @@ pub(crate) fn taken_arguments(
     let params = objects.params(of, signal);
     let mut taken = Items::new(alloc);
     for (i, argument) in arguments.iter().enumerate() {
-        let argument = argument.copy(alloc)?;
-        let value = objects.take(alloc, param_kind(params, i), argument)?;
+        let value = taken_argument(alloc, objects, params, i, argument)?;
         taken.push(value)?;
     }
     Ok(taken)

@@ -37,14 +37,13 @@ pub(crate) fn note_loops(
 // Notes the fault of a place's expression.
 fn note_fault(
     objects: &Objects,
-    place: Place,
-    fault: EvalFault,
+    found: &(Place, EvalFault),
     notes: &mut Notes,
 ) -> Result<(), AllocError>
-    ensures { OnOk result (notes.new ≡ notes.old ++ fault_note objects.now (place, fault)) }
+    ensures { OnOk result (notes.new ≡ notes.old ++ fault_note objects.now found.now) }
 {
-    match objects.at(place) {
-        Some(at) => notes.line(&Note::Fault(at, fault)),
+    match objects.at(found.0) {
+        Some(at) => notes.line(&Note::Fault(at, found.1)),
         None => Ok(()),
     }
 }
@@ -57,8 +56,8 @@ pub(crate) fn note_faults(
 ) -> Result<(), AllocError>
     ensures { OnOk result (notes.new ≡ notes.old ++ flat_map (fault_note objects.now) faults.now) }
 {
-    for (place, fault) in faults {
-        note_fault(objects, *place, *fault, notes)?;
+    for found in faults {
+        note_fault(objects, found, notes)?;
     }
     Ok(())
 }
@@ -78,14 +77,16 @@ impl Site {
 impl World {
     /// Notes the fault that ends a handler.
     pub(crate) fn note_end(&mut self, site: &Site, fault: EvalFault) -> Result<(), AllocError>
-        ensures { OnOk result (self.new ≡ with_fault_note site.now fault self.old) }
+        ensures noted { OnOk result (self.new ≡ with_fault_note site.now fault self.old) }
+        ensures left { self.new.left ≡ self.old.left }
     {
         self.notes.line(&Note::Fault(site.at(), fault))
     }
 
     /// Notes a limit that was met.
     pub(crate) fn note_limit(&mut self, site: &Site, limit: LimitKind) -> Result<(), AllocError>
-        ensures { OnOk result (self.new ≡ limited site.now limit self.old) }
+        ensures noted { OnOk result (self.new ≡ limited site.now limit self.old) }
+        ensures left { self.new.left ≡ self.old.left }
     {
         self.notes.line(&Note::Limit(site.at(), limit))
     }

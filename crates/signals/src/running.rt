@@ -1,11 +1,19 @@
-ghost use Rattle.std.specs.Prelude.{◌≡◌, ◌≤◌, ◌<◌, ◌∷◌, [], true, false, map, option_copied, option_map, OnOk};
-ghost use Rattle.qml_ast.specs.declared.place.Place.{Place};
+ghost use Rattle.std.specs.Prelude.{◌≡◌, ◌≤◌, ◌<◌, if◌then◌else◌, pos, List, [], map, option_copied, option_map, Ok, OnOk};
 ghost use Rattle.qml_ast.specs.declared.expr.Expr.{out-Expr};
-ghost use Rattle.object_tree.specs.Handlers.{method_at};
+ghost use Rattle.qml_ast.specs.declared.stmt.AssignOp.TheVariants.{Add, Sub};
+ghost use Rattle.qml_ast.specs.declared.value.Value.TheVariants.{Int};
+ghost use Rattle.expr_eval.specs.Names.{declared};
+ghost use Rattle.expr_eval.specs.Needs.{every};
+ghost use Rattle.expr_eval.specs.Statements.{called};
+ghost use Rattle.expr_eval.specs.declared.locals.Local.TheVariants.{Plain};
+ghost use Rattle.expr_eval.specs.declared.locals.NamedLocal.{NamedLocal};
+ghost use Rattle.object_tree.specs.Handlers.{signal_params_at, method_at};
+ghost use Rattle.object_tree.specs.Settled.{meanings, arities};
 ghost use Rattle.signals.specs.Assigning.{right_in};
-ghost use Rattle.signals.specs.Endings.{Ends, Leaves, each, followed, going, with_value};
-ghost use Rattle.signals.specs.Jobs.{handles};
-ghost use Rattle.signals.specs.Running.{handle, exec, in_order, part, chosen, looped, turns, turn_of, assigned_to, done_step, call_done, method_called, timer_called, run_timer, restarted, written_to, body_done, handled, emitted, change_told, reacted, write};
+ghost use Rattle.signals.specs.Endings.{Ends, Leaves, each, on, followed, going, with_value};
+ghost use Rattle.signals.specs.Jobs.{handles, taken_arguments};
+ghost use Rattle.signals.specs.Running.{handle, exec, begun, in_order, part, chosen, looped, turn_of, is_fixed_word, assigned_to, done_step, call_done, method_called, timer_called, restarted, written_to, body_done, handled, emitted, change_told, write};
+ghost use Rattle.signals.specs.Values.{holds_in, value_or_undefined};
 
 use crate::assigning::{Right, local_target};
 use crate::calling::running_place;
@@ -18,23 +26,38 @@ use crate::valuing::Setting;
 use crate::world::World;
 use binding_engine::Writes;
 use expr_eval::{Called, Local, Locals};
-use qml_ast::{AssignOp, EvalFault, Expr, LocalWord, Name, Place, Stmt, Value, truth};
+use qml_ast::{AssignOp, EvalFault, Expr, LocalWord, Name, Place, Stmt, Value};
 use script_text::LimitKind;
 use sqlite_items::Boxed;
 use std::alloc::Global;
 
+// Whether nothing can be assigned to what the word declares.
+fn is_fixed_word(word: LocalWord) -> bool
+    ensures { result ≡ is_fixed_word word }
+{
+    match word {
+        LocalWord::Var | LocalWord::Let => false,
+        LocalWord::Const => true,
+    }
+}
+
 impl World {
     // Counts a statement that begins. Where no more may begin, that is noted.
-    fn begin_statement(&mut self, at: &Setting<'_>) -> Result<(), Stop> {
+    fn begin_statement(&mut self, at: &Setting<'_>) -> Result<(), Halt>
+        ensures begins { Ends (begun at.now.site.now self.old) result self.new }
+        ensures left { self.new.left ≤ self.old.left }
+        ensures spends { OnOk result (self.new.left < self.old.left) }
+    {
         if self.left == 0 {
             self.note_limit(at.site, LimitKind::Statements)?;
-            return Err(Stop::Halted(Halt::Budget));
+            return Err(Halt::Budget);
         }
         self.left -= 1;
         Ok(())
     }
 
     // Declares a local.
+    #[tactic(auto, using(crate::proofs::Following::stops_value))]
     fn declare(
         &self,
         word: LocalWord,
@@ -42,19 +65,18 @@ impl World {
         value: Option<&Expr>,
         at: &Setting<'_>,
         locals: &mut Locals,
-    ) -> Result<Flow, Stop> {
+    ) -> Result<Flow, Stop>
+        ensures { Leaves (with_value (value_or_undefined at.now.site.now.frame self.now.objects locals.old (option_copied value.entry)) self.now locals.old
+            (λ v. on self.now (declared name.now (Plain v) (is_fixed_word word) locals.old))) result self.now locals.new }
+    {
         let value = self.value_or_undefined(value, at, locals)?;
-        locals.declare(
-            at.alloc,
-            name,
-            Local::Plain(value),
-            word == LocalWord::Const,
-        )?;
+        locals.declare(at.alloc, name, Local::Plain(value), is_fixed_word(word))?;
         Ok(Flow::Going)
     }
 
     // Runs a statement.
     #[cycle(running)]
+    #[tactic(auto, using(crate::proofs::Following::stops_followed, crate::proofs::Following::stops_going, crate::proofs::Following::stops_value), unfolding(crate::specs::Running::exec))]
     fn exec(
         &mut self,
         stmt: &Stmt,
@@ -100,13 +122,14 @@ impl World {
 
     // Runs statements, one after another.
     #[cycle(running)]
+    #[tactic(auto, using(crate::proofs::Following::stops_followed))]
     fn in_order(
         &mut self,
         stmts: &[Stmt],
         at: &Setting<'_>,
         locals: &mut Locals,
     ) -> Result<Flow, Stop>
-        ensures runs { Leaves (in_order (handle at.now.room) at.now.site.now (map (exec (handle at.now.room) at.now.site.now) stmts.now) self.old locals.old) result self.new locals.new }
+        ensures runs { Leaves (in_order (map (exec (handle at.now.room) at.now.site.now) stmts.now) self.old locals.old) result self.new locals.new }
         ensures left { self.new.left ≤ self.old.left }
     {
         for stmt in stmts {
@@ -126,7 +149,7 @@ impl World {
         at: &Setting<'_>,
         locals: &mut Locals,
     ) -> Result<Flow, Stop>
-        ensures runs { Leaves (part (handle at.now.room) at.now.site.now (option_map (exec (handle at.now.room) at.now.site.now) (option_copied stmt.entry)) self.old locals.old) result self.new locals.new }
+        ensures runs { Leaves (part (option_map (exec (handle at.now.room) at.now.site.now) (option_copied stmt.entry)) self.old locals.old) result self.new locals.new }
         ensures left { self.new.left ≤ self.old.left }
     {
         match stmt {
@@ -136,6 +159,7 @@ impl World {
     }
 
     #[cycle(running)]
+    #[tactic(auto, using(crate::proofs::Following::stops_value))]
     fn choose(
         &mut self,
         condition: &Expr,
@@ -144,9 +168,11 @@ impl World {
         at: &Setting<'_>,
         locals: &mut Locals,
     ) -> Result<Flow, Stop>
+        ensures runs { Leaves (with_value (holds_in at.now.site.now.frame self.old.objects locals.old condition.now) self.old locals.old
+            (λ holds. chosen holds (exec (handle at.now.room) at.now.site.now first.now) (option_map (exec (handle at.now.room) at.now.site.now) (option_copied otherwise.entry)) self.old locals.old)) result self.new locals.new }
+        ensures left { self.new.left ≤ self.old.left }
     {
-        let value = self.value(condition, at, locals)?;
-        if truth(&value) {
+        if self.holds(condition, at, locals)? {
             self.exec(first.get(), at, locals)
         } else {
             self.part(otherwise, at, locals)
@@ -155,6 +181,7 @@ impl World {
 
     // Runs a `for`.
     #[cycle(running)]
+    #[tactic(auto, using(crate::proofs::Following::stops_followed))]
     fn count_through(
         &mut self,
         first: Option<&Boxed<Stmt>>,
@@ -164,6 +191,9 @@ impl World {
         at: &Setting<'_>,
         locals: &mut Locals,
     ) -> Result<Flow, Stop>
+        ensures runs { Leaves (followed (part (option_map (exec (handle at.now.room) at.now.site.now) (option_copied first.entry)) self.old locals.old)
+            (looped at.now.site.now.frame (option_copied condition.entry) (turn_of (exec (handle at.now.room) at.now.site.now body.now) (option_map (exec (handle at.now.room) at.now.site.now) (option_copied step.entry))))) result self.new locals.new }
+        ensures left { self.new.left ≤ self.old.left }
     {
         match self.part(first, at, locals)? {
             Flow::Going => self.turns(condition, body, step, at, locals),
@@ -181,21 +211,21 @@ impl World {
         at: &Setting<'_>,
         locals: &mut Locals,
     ) -> Result<Flow, Stop>
+        ensures runs { Leaves (looped at.now.site.now.frame (option_copied condition.entry) (turn_of (exec (handle at.now.room) at.now.site.now body.now) (option_map (exec (handle at.now.room) at.now.site.now) (option_copied step.entry))) self.old locals.old) result self.new locals.new }
+        ensures left { self.new.left ≤ self.old.left }
     {
-        loop {
-            let value = self.condition(condition, at, locals)?;
-            if !truth(&value) {
-                return Ok(Flow::Going);
-            }
+        while self.condition(condition, at, locals)? {
             match self.turn(body, step, at, locals)? {
                 Flow::Going => {}
                 Flow::Returned => return Ok(Flow::Returned),
             }
         }
+        Ok(Flow::Going)
     }
 
     // Runs one turn of a loop.
     #[cycle(running)]
+    #[tactic(auto, using(crate::proofs::Following::stops_followed))]
     fn turn(
         &mut self,
         body: &Boxed<Stmt>,
@@ -203,6 +233,9 @@ impl World {
         at: &Setting<'_>,
         locals: &mut Locals,
     ) -> Result<Flow, Stop>
+        ensures runs { Leaves (turn_of (exec (handle at.now.room) at.now.site.now body.now) (option_map (exec (handle at.now.room) at.now.site.now) (option_copied step.entry)) self.old locals.old) result self.new locals.new }
+        ensures left { self.new.left ≤ self.old.left }
+        ensures spends { OnOk result (self.new.left < self.old.left) }
     {
         match self.exec(body.get(), at, locals)? {
             Flow::Going => self.part(step, at, locals),
@@ -219,6 +252,8 @@ impl World {
         at: &Setting<'_>,
         locals: &mut Locals,
     ) -> Result<Flow, Stop>
+        ensures runs { Leaves (assigned_to (handle at.now.room) at.now.site.now target.now (if up then Add else Sub) (Ok (Int (pos 1))) self.old locals.old) result self.new locals.new }
+        ensures left { self.new.left ≤ self.old.left }
     {
         let op = if up { AssignOp::Add } else { AssignOp::Sub };
         self.assign(target, op, Right::One, at, locals)
@@ -226,6 +261,7 @@ impl World {
 
     // Runs an assignment.
     #[cycle(running)]
+    #[tactic(auto, using(crate::proofs::Following::stops_value, crate::proofs::Following::stops_going), unfolding(crate::specs::Running::assigned_to))]
     fn assign(
         &mut self,
         target: &Expr,
@@ -234,6 +270,8 @@ impl World {
         at: &Setting<'_>,
         locals: &mut Locals,
     ) -> Result<Flow, Stop>
+        ensures runs { Leaves (assigned_to (handle at.now.room) at.now.site.now target.now op (right_in at.now.site.now.frame self.old.objects locals.old right.entry) self.old locals.old) result self.new locals.new }
+        ensures left { self.new.left ≤ self.old.left }
     {
         if let Some(name) = local_target(target, locals) {
             return self.assign_local(name, op, right, at, locals);
@@ -245,12 +283,15 @@ impl World {
 
     // Runs an expression that stands as a statement.
     #[cycle(running)]
+    #[tactic(auto, using(crate::proofs::Following::stops_value))]
     fn perform(
         &mut self,
         e: &Expr,
         at: &Setting<'_>,
         locals: &mut Locals,
     ) -> Result<Flow, Stop>
+        ensures runs { Leaves (done_step (handle at.now.room) at.now.site.now e.now (out-Expr e.now) self.old locals.old) result self.new locals.new }
+        ensures left { self.new.left ≤ self.old.left }
     {
         match e {
             Expr::Call(callee, arguments) => {
@@ -272,6 +313,8 @@ impl World {
         at: &Setting<'_>,
         locals: &mut Locals,
     ) -> Result<Flow, Stop>
+        ensures runs { Leaves (call_done (handle at.now.room) at.now.site.now (called every (meanings self.old.objects) (arities self.old.objects) callee.now arguments.now at.now.site.now.frame locals.old []).0 self.old locals.old) result self.new locals.new }
+        ensures left { self.new.left ≤ self.old.left }
     {
         match self.called(callee, arguments, at, locals)? {
             Called::Done => Ok(Flow::Going),
@@ -293,6 +336,7 @@ impl World {
 
     // Emits a signal that is called.
     #[cycle(running)]
+    #[tactic(auto, using(crate::proofs::Following::stops_value, crate::proofs::Following::stops_going))]
     fn call_signal(
         &mut self,
         of: u64,
@@ -300,6 +344,9 @@ impl World {
         arguments: &[Value],
         at: &Setting<'_>,
     ) -> Result<Flow, Stop>
+        ensures runs { (locals : List NamedLocal) → Leaves (with_value (taken_arguments self.old.objects (signal_params_at of signal self.old.objects) arguments.now) self.old locals
+            (λ args. going (emitted (handle at.now.room) of signal args self.old) locals)) result self.new locals }
+        ensures left { self.new.left ≤ self.old.left }
     {
         let taken = taken_arguments(at.alloc, &self.objects, of, signal, arguments)?;
         self.emit_in(at.alloc, of, signal, taken.as_slice(), at.room)?;
@@ -308,6 +355,7 @@ impl World {
 
     // Runs a method that is called: one that a document declares, or a timer's.
     #[cycle(running)]
+    #[tactic(auto, using(crate::proofs::Following::stops_going))]
     fn call_method(
         &mut self,
         of: u64,
@@ -315,6 +363,8 @@ impl World {
         arguments: &[Value],
         at: &Setting<'_>,
     ) -> Result<Flow, Stop>
+        ensures runs { (locals : List NamedLocal) → Leaves (going (method_called (handle at.now.room) at.now.site.now of method (method_at of method self.old.objects) arguments.now self.old) locals) result self.new locals }
+        ensures left { self.new.left ≤ self.old.left }
     {
         match method_job(at.alloc, &self.objects, of, method, arguments, at.site)? {
             Some(job) => self.run(at.alloc, &job, at.room)?,
@@ -325,6 +375,7 @@ impl World {
 
     // Runs a timer's method.
     #[cycle(running)]
+    #[tactic(auto, unfolding(crate::specs::Running::timer_called))]
     fn call_timer(
         &mut self,
         alloc: Global,
@@ -332,6 +383,8 @@ impl World {
         method: u32,
         room: u32,
     ) -> Result<(), Halt>
+        ensures runs { Ends (timer_called (handle room) of method self.old) result self.new }
+        ensures left { self.new.left ≤ self.old.left }
     {
         match method {
             0 => self.write_any(alloc, running_place(of), Value::Bool(true), room),
@@ -344,6 +397,8 @@ impl World {
     // Begins a timer anew that runs, and starts another one.
     #[cycle(running)]
     fn restart(&mut self, alloc: Global, of: u64, room: u32) -> Result<(), Halt>
+        ensures runs { Ends (restarted (handle room) of self.old) result self.new }
+        ensures left { self.new.left ≤ self.old.left }
     {
         if self.is_shown_true(running_place(of)) {
             self.note_restart(of)?;
@@ -360,6 +415,8 @@ impl World {
         value: Value,
         room: u32,
     ) -> Result<(), Halt>
+        ensures runs { Ends (written_to (handle room) place value self.old) result self.new }
+        ensures left { self.new.left ≤ self.old.left }
     {
         match place {
             Some(place) => self.write_at(alloc, place, value, room),
@@ -369,6 +426,7 @@ impl World {
 
     // Runs a handler or a method. A fault ends it alone.
     #[cycle(running)]
+    #[tactic(auto, unfolding(crate::specs::Running::handle))]
     fn run(&mut self, alloc: Global, job: &Job, room: u32) -> Result<(), Halt>
         ensures runs { Ends (handle room job.now self.old) result self.new }
         ensures left { self.new.left ≤ self.old.left }
@@ -408,6 +466,7 @@ impl World {
 
     /// Runs the handlers of an object that run at that occasion, with these locals.
     #[cycle(running)]
+    #[tactic(auto, using(crate::proofs::Following::stops_after), unfolding(crate::specs::Running::handled))]
     pub(crate) fn handled(
         &mut self,
         alloc: Global,
@@ -428,6 +487,7 @@ impl World {
 
     /// Runs the handlers of a signal.
     #[cycle(running)]
+    #[tactic(auto, unfolding(crate::specs::Running::emitted))]
     pub(crate) fn emit_in(
         &mut self,
         alloc: Global,
@@ -450,11 +510,11 @@ impl World {
 
     // Runs the handlers of a place's changes.
     #[cycle(running)]
-    fn tell_change(&mut self, alloc: Global, place: Place, room: u32) -> Result<(), Halt>
-        ensures runs { Ends (change_told (handle room) place self.old) result self.new }
+    fn tell_change(&mut self, alloc: Global, place: &Place, room: u32) -> Result<(), Halt>
+        ensures runs { Ends (change_told (handle room) place.now self.old) result self.new }
         ensures left { self.new.left ≤ self.old.left }
     {
-        match change_name(alloc, &self.objects, place)? {
+        match change_name(alloc, &self.objects, *place)? {
             Some(name) => {
                 let locals = Locals::new(alloc);
                 let occasion = Occasion::Signal(name.as_str());
@@ -466,6 +526,7 @@ impl World {
 
     /// Runs the handlers of these places' changes, one place after another.
     #[cycle(running)]
+    #[tactic(auto, using(crate::proofs::Following::stops_after))]
     pub(crate) fn tell_changes(
         &mut self,
         alloc: Global,
@@ -476,13 +537,14 @@ impl World {
         ensures left { self.new.left ≤ self.old.left }
     {
         for place in changed {
-            self.tell_change(alloc, *place, room)?;
+            self.tell_change(alloc, place, room)?;
         }
         Ok(())
     }
 
     // Writes a value, settles, and runs the handlers of what has changed.
     #[cycle(running)]
+    #[tactic(auto, unfolding(crate::specs::Running::write, crate::specs::Running::reacted))]
     fn write_at(
         &mut self,
         alloc: Global,

@@ -19,6 +19,7 @@ impl World {
         writes: &Writes,
     ) -> Result<Vec<Place>, AllocError>
         ensures settled { OnOk result (self.new ≡ settled_by writes.now self.old) }
+        ensures left { self.new.left ≡ self.old.left }
         ensures changed { IfOk result (λ changed. changed.items ≡ changes_of writes.now self.old.objects) }
     {
         let settled = self.engine.settle(alloc, &mut self.objects, writes)?;
@@ -39,6 +40,7 @@ impl World {
         value: Value,
     ) -> Result<Vec<Place>, AllocError>
         ensures settled { OnOk result (self.new ≡ settled_by (place ∷ []) (with_written place value self.old)) }
+        ensures left { self.new.left ≡ self.old.left }
         ensures changed { IfOk result (λ changed. changed.items ≡ changes_of (place ∷ []) (written place value self.old.objects)) }
     {
         let mut writes = Writes::new(alloc);

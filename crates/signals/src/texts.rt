@@ -1,7 +1,7 @@
-ghost use Rattle.std.specs.Prelude.{◌≡◌, ◌++◌, map, string_bytes, OnOk, IfOk};
+ghost use Rattle.std.specs.Prelude.{◌≡◌, ◌++◌, map, fold, string_bytes, OnOk, IfOk};
 ghost use Rattle.qml_ast.specs.TextForm.{text_of};
 ghost use Rattle.signals.specs.Endings.{Gives};
-ghost use Rattle.signals.specs.Values.{joined_texts, logged_text};
+ghost use Rattle.signals.specs.Values.{with_text, joined_texts, logged_text};
 
 use crate::ending::Stop;
 use qml_ast::{EvalFault, Text, Value, to_text};
@@ -19,20 +19,30 @@ fn add_text(alloc: Global, value: &Value, joined: &mut String) -> Result<(), All
     Ok(())
 }
 
+// Adds the texts of values, each after a space.
+fn add_texts(alloc: Global, values: &[Value], joined: &mut String) -> Result<(), AllocError>
+    ensures { OnOk result (string_bytes joined.new ≡ fold with_text (string_bytes joined.old) (map text_of values.now)) }
+{
+    for value in values {
+        joined.push(' ')?;
+        add_text(alloc, value, joined)?;
+    }
+    Ok(())
+}
+
 // The texts of values, with a space between each two.
 fn joined(alloc: Global, values: &[Value]) -> Result<String, AllocError>
     ensures { IfOk result (λ joined. string_bytes joined ≡ joined_texts (map text_of values.now)) }
 {
     let mut joined = String::new(alloc);
-    let [first, rest @ ..] = values else {
-        return Ok(joined);
-    };
-    add_text(alloc, first, &mut joined)?;
-    for value in rest {
-        joined.push(' ')?;
-        add_text(alloc, value, &mut joined)?;
+    match values {
+        [first, rest @ ..] => {
+            add_text(alloc, first, &mut joined)?;
+            add_texts(alloc, rest, &mut joined)?;
+            Ok(joined)
+        }
+        [] => Ok(joined),
     }
-    Ok(joined)
 }
 
 /// The texts of values as they are logged: with a space between each two, and TextTooLong where they have more than

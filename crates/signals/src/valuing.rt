@@ -1,13 +1,13 @@
 ghost use Rattle.std.specs.Prelude.{◌≡◌, option_copied};
 ghost use Rattle.signals.specs.Endings.{Gives};
-ghost use Rattle.signals.specs.Values.{value_in, value_or_undefined, condition_in};
+ghost use Rattle.signals.specs.Values.{value_in, value_or_undefined, holds_in, condition_in};
 
 use crate::ending::Stop;
 use crate::job::Site;
 use crate::world::World;
 use expr_eval::{Eval, Locals, Trace, eval};
 use object_tree::Settled;
-use qml_ast::{EvalFault, Expr, Value};
+use qml_ast::{EvalFault, Expr, Value, truth};
 use std::alloc::Global;
 
 /// Where a statement stands.
@@ -55,18 +55,33 @@ impl World {
         }
     }
 
-    /// The value of a condition that may be left out, and holds then.
+    /// Whether an expression's value is true.
+    pub(crate) fn holds(
+        &self,
+        e: &Expr,
+        at: &Setting<'_>,
+        locals: &Locals,
+    ) -> Result<bool, Stop>
+        ensures { Gives (holds_in at.now.site.now.frame self.now.objects locals.now e.now) result }
+    {
+        match self.value(e, at, locals) {
+            Ok(value) => Ok(truth(&value)),
+            Err(stop) => Err(stop),
+        }
+    }
+
+    /// Whether a condition holds. One that is left out does.
     pub(crate) fn condition(
         &self,
         e: Option<&Expr>,
         at: &Setting<'_>,
         locals: &Locals,
-    ) -> Result<Value, Stop>
+    ) -> Result<bool, Stop>
         ensures { Gives (condition_in at.now.site.now.frame self.now.objects locals.now (option_copied e.entry)) result }
     {
         match e {
-            Some(e) => self.value(e, at, locals),
-            None => Ok(Value::Bool(true)),
+            Some(e) => self.holds(e, at, locals),
+            None => Ok(true),
         }
     }
 }
