@@ -469,12 +469,24 @@ fn target(alloc: Global, text: &str, locals: &Locals, fake: &Fake) -> Result<Str
     told(aim_text(alloc, answer)?, &trace)
 }
 
+/// Whether the target of a text stands there.
+fn stands_at(
+    alloc: Global,
+    text: &str,
+    want: &str,
+    locals: &Locals,
+    fake: &Fake,
+) -> Result<bool, Fail> {
+    let found = target(alloc, text, locals, fake)?;
+    Ok(found.as_str() == want)
+}
+
 /// The first target that is found elsewhere than it should be.
 fn first_wrong_target(alloc: Global) -> Result<Option<&'static str>, Fail> {
     let fake = fake(alloc)?;
     let locals = locals(alloc)?;
     for (text, want) in TARGETS {
-        if target(alloc, text, &locals, &fake)?.as_str() != *want {
+        if !stands_at(alloc, text, want, &locals, &fake)? {
             return Ok(Some(*text));
         }
     }
@@ -541,12 +553,24 @@ fn statement(alloc: Global, text: &str, locals: &Locals, fake: &Fake) -> Result<
     told(called_text(alloc, &answer)?, &trace)
 }
 
+/// Whether the call of a text calls that.
+fn calls_so(
+    alloc: Global,
+    text: &str,
+    want: &str,
+    locals: &Locals,
+    fake: &Fake,
+) -> Result<bool, Fail> {
+    let found = statement(alloc, text, locals, fake)?;
+    Ok(found.as_str() == want)
+}
+
 /// The first call that is not as it should be.
 fn first_wrong_call(alloc: Global) -> Result<Option<&'static str>, Fail> {
     let fake = fake(alloc)?;
     let locals = locals(alloc)?;
     for (text, want) in CALLS {
-        if statement(alloc, text, &locals, &fake)?.as_str() != *want {
+        if !calls_so(alloc, text, want, &locals, &fake)? {
             return Ok(Some(*text));
         }
     }
