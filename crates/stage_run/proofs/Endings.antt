@@ -1,9 +1,11 @@
 -- How the parts of a run make its end.
-use Rattle.std.proofs.Common.{◌≡◌, ℕ, ◌≤◌, List, Option, None, Some, sym, ap, ◌∙◌, subst, inl, inr, arith}
-use Rattle.std.specs.Prelude.{IfSome, IfErr, OnOk, Result, Ok, Err}
+use Rattle.std.proofs.Common.{◌≡◌, ℕ, ◌≤◌, List, [], Option, None, Some, refl, sym, ap, ◌∙◌, subst, inl, inr, arith}
+use Rattle.std.specs.Prelude.{◌⊎◌, IfSome, IfErr, OnOk, Result, Ok, Err}
 use Rattle.std.specs.FinMap.{get}
-use Rattle.std.specs.Io.KnownBytes.{Appends}
+use Rattle.std.specs.Io.KnownBytes.{Keeps, Appends}
+use Rattle.outside.proofs.Appending.{AppendsPart-kept, AppendsPart-whole}
 use Rattle.outside.specs.Bytes.{AppendsPart}
+use Rattle.outside.specs.Count.{Rose}
 use Rattle.outside.specs.Store.{Store}
 use Rattle.qml_ast.specs.declared.fault.LoadFault.{LoadFault}
 use Rattle.rect_raster.specs.Picture.{Picture, ppm}
@@ -13,7 +15,7 @@ use Rattle.stage_run.specs.Causes.{HasScript, HasBadScript, RefusesDocument, Acc
 use Rattle.stage_run.specs.Documents.{HasFault, HasRunUnit}
 use Rattle.stage_run.specs.Flaws.{IsPrefix, StopsWriting}
 use Rattle.stage_run.specs.Moves.{commands}
-use Rattle.stage_run.specs.Shown.{picture_of}
+use Rattle.stage_run.specs.Shown.{picture_of, notes_of}
 use Rattle.stage_run.specs.Words.{main_of, script_of}
 use Rattle.stage_run.proofs.Starting.{start_holds}
 use Rattle.stage_run.specs.Written.{image_of, copies, written}
@@ -46,9 +48,9 @@ copies-written : (image : List ℕ) (unit : UnitOf) (n : ℕ) → image ≡ imag
 copies-written image unit n e = ap (λ i. copies i n) e ∙ written-commands unit n
 
 -- all frames were written
-pub ended-whole : {A : Type 0} (r : Result A Status) (run : Run) (image : List ℕ) (count : ℕ) (unit : UnitOf) → count ≤ 100000 → Accepts run.held run.words count unit → image ≡ image_of unit
-    → OnOk r (run.journal ≡ commands count) → OnOk r (Appends run.frames_before run.frames_after (copies image count)) → OnOk r (Ends run status.Done)
-ended-whole (Ok a) run image count unit few took e moved wrote = (
+pub ended-whole : {A : Type 0} (r : Result A Status) (run : Run) (image told : List ℕ) (count : ℕ) (unit : UnitOf) → count ≤ 100000 → Accepts run.held run.words count unit → image ≡ image_of unit
+    → told ≡ notes_of unit → Appends run.notes_before run.notes_after told → OnOk r (run.journal ≡ commands count) → OnOk r (Appends run.frames_before run.frames_after (copies image count)) → OnOk r (Ends run status.Done)
+ended-whole (Ok a) run image told count unit few took e says noted moved wrote = (
   count,
   unit,
   record {
@@ -57,14 +59,15 @@ ended-whole (Ok a) run image count unit few took e moved wrote = (
     settled = start_holds unit.components;
     moves = moved;
     bytes = subst (Appends run.frames_before run.frames_after) (copies-written image unit count e ∙ ap (written unit) (sym moved)) wrote;
+    notes = subst (Appends run.notes_before run.notes_after) says noted;
   },
 )
-ended-whole (Err s) run image count unit few took e moved wrote = tt
+ended-whole (Err s) run image told count unit few took e says noted moved wrote = tt
 
 -- the first frames, as a part of the run
-part_of : (run : Run) (image : List ℕ) (count : ℕ) (unit : UnitOf) → count ≤ 100000 → Accepts run.held run.words count unit → image ≡ image_of unit
-    → IsPrefix image count run.journal run.frames_before run.frames_after → (n : ℕ) × (done : ℕ) × (u : UnitOf) × IsPart run n done u
-part_of run image count unit few took e part = (
+part_of : (run : Run) (image told : List ℕ) (count : ℕ) (unit : UnitOf) → count ≤ 100000 → Accepts run.held run.words count unit → image ≡ image_of unit
+    → told ≡ notes_of unit → Appends run.notes_before run.notes_after told → IsPrefix image count run.journal run.frames_before run.frames_after → (n : ℕ) × (done : ℕ) × (u : UnitOf) × IsPart run n done u
+part_of run image told count unit few took e says noted part = (
   count,
   part.done,
   unit,
@@ -75,24 +78,46 @@ part_of run image count unit few took e part = (
     settled = start_holds unit.components;
     moves = part.moves;
     bytes = subst (AppendsPart run.frames_before run.frames_after) (copies-written image unit part.done e ∙ ap (written unit) (sym part.moves)) part.bytes;
+    notes = AppendsPart-whole run.notes_before run.notes_after (notes_of unit) (subst (Appends run.notes_before run.notes_after) says noted);
+    noted_first = λ some. subst (Appends run.notes_before run.notes_after) says noted;
   },
 )
 
 -- the frames stopped
-stopped_with : (run : Run) (s : Status) (image : List ℕ) (count : ℕ) (unit : UnitOf) → count ≤ 100000 → Accepts run.held run.words count unit → image ≡ image_of unit
-    → StopsWriting image count run.journal run.frames_before run.frames_after run.writes_before run.writes_after s → Ends run s
-stopped_with run status.Done image count unit few took e stopped = absurd stopped
-stopped_with run status.Usage image count unit few took e stopped = stopped
-stopped_with run (status.BadScript line) image count unit few took e stopped = absurd stopped
-stopped_with run (status.BadDocument fault) image count unit few took e stopped = absurd stopped
-stopped_with run status.ReadFault image count unit few took e stopped = absurd stopped
-stopped_with run status.WriteFault image count unit few took e stopped = (stopped.0, part_of run image count unit few took e stopped.1)
-stopped_with run status.NoMemory image count unit few took e stopped = inr (part_of run image count unit few took e stopped)
+stopped_with : (run : Run) (s : Status) (image told : List ℕ) (count : ℕ) (unit : UnitOf) → count ≤ 100000 → Accepts run.held run.words count unit → image ≡ image_of unit
+    → told ≡ notes_of unit → Appends run.notes_before run.notes_after told → StopsWriting image count run.journal run.frames_before run.frames_after run.writes_before run.writes_after s → Ends run s
+stopped_with run status.Done image told count unit few took e says noted stopped = absurd stopped
+stopped_with run status.Usage image told count unit few took e says noted stopped = stopped
+stopped_with run (status.BadScript line) image told count unit few took e says noted stopped = absurd stopped
+stopped_with run (status.BadDocument fault) image told count unit few took e says noted stopped = absurd stopped
+stopped_with run status.ReadFault image told count unit few took e says noted stopped = absurd stopped
+stopped_with run status.WriteFault image told count unit few took e says noted stopped = (inl stopped.0, part_of run image told count unit few took e says noted stopped.1)
+stopped_with run status.NoMemory image told count unit few took e says noted stopped = inr (part_of run image told count unit few took e says noted stopped)
 
-pub ended-stopped : {A : Type 0} (r : Result A Status) (run : Run) (image : List ℕ) (count : ℕ) (unit : UnitOf) → count ≤ 100000 → Accepts run.held run.words count unit → image ≡ image_of unit
-    → IfErr r (StopsWriting image count run.journal run.frames_before run.frames_after run.writes_before run.writes_after) → IfErr r (Ends run)
-ended-stopped (Ok a) run image count unit few took e stopped = tt
-ended-stopped (Err s) run image count unit few took e stopped = stopped_with run s image count unit few took e stopped
+pub ended-stopped : {A : Type 0} (r : Result A Status) (run : Run) (image told : List ℕ) (count : ℕ) (unit : UnitOf) → count ≤ 100000 → Accepts run.held run.words count unit → image ≡ image_of unit
+    → told ≡ notes_of unit → Appends run.notes_before run.notes_after told → IfErr r (StopsWriting image count run.journal run.frames_before run.frames_after run.writes_before run.writes_after) → IfErr r (Ends run)
+ended-stopped (Ok a) run image told count unit few took e says noted stopped = tt
+ended-stopped (Err s) run image told count unit few took e says noted stopped = stopped_with run s image told count unit few took e says noted stopped
+
+-- what is noted was not written whole
+pub ended-untold : (run : Run) (s : Status) (told : List ℕ) (count : ℕ) (unit : UnitOf) → count ≤ 100000 → Accepts run.held run.words count unit → told ≡ notes_of unit → run.journal ≡ [] →
+    Keeps run.frames_before run.frames_after → AppendsPart run.notes_before run.notes_after told → Rose run.notings_before run.notings_after → s ≡ status.WriteFault → Ends run s
+ended-untold run s told count unit few took says none kept noted rose is =
+    subst (Ends run) (sym is) (inr rose, (
+      count,
+      0,
+      unit,
+      record {
+        few = few;
+        within = omega arith;
+        accepted = took;
+        settled = start_holds unit.components;
+        moves = none;
+        bytes = AppendsPart-kept run.frames_before run.frames_after (written unit run.journal) kept;
+        notes = subst (AppendsPart run.notes_before run.notes_after) says noted;
+        noted_first = λ some. absurd (some refl);
+      },
+    ))
 
 -- a lawful script, and beside it what the document's file has
 beside : (held : Option Store) (words : List (List ℕ)) (count : ℕ) (fault : LoadFault) → IfSome held (λ files. HasScript (get files (script_of words)) count) → IfSome held (λ files. HasFault files (main_of words) fault)
@@ -129,5 +154,9 @@ complete-cause run (status.BadScript line) cause files sound =
 complete-cause run (status.BadDocument fault) cause files sound =
     let told = rw sound.told at cause.1.2 in no_fault_of files (main_of run.words) sound.unit fault sound.document told.1
 complete-cause run status.ReadFault cause files sound = sound.reads cause.1.1
-complete-cause run status.WriteFault cause files sound = sound.writes cause.1.0
+complete-cause run status.WriteFault cause files sound = either (cause.1).0
+  where
+    either : Rose run.writes_before run.writes_after ⊎ Rose run.notings_before run.notings_after → IsDoneOrNoMemory status.WriteFault
+    either (inl rose) = sound.writes rose
+    either (inr rose) = sound.notings rose
 complete-cause run status.NoMemory cause files sound = tt

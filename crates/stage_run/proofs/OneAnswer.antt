@@ -7,7 +7,7 @@ use Rattle.qml_ast.specs.declared.fault.LoadFault.TheVariants as load
 use Rattle.qml_parse.proofs.OneReading.{one_document, one_text_fault, fault_apart}
 use Rattle.qml_types.specs.declared.component.ComponentType.{ComponentType, out-ComponentType}
 use Rattle.stage_run.specs.Documents.{HasFault, HasRunUnit, IsUnrun}
-use Rattle.stage_run.specs.Shown.{picture_in, picture_of, started_first}
+use Rattle.stage_run.specs.Shown.{picture_with, picture_of, notes_with, notes_of, started_first}
 use Rattle.type_loader.specs.declared.unit.Unit.{Unit as UnitOf}
 use Rattle.type_loader.specs.Units.{HasUnit}
 use Rattle.type_loader.proofs.Once.{faults_once, never_both, units_once}
@@ -19,7 +19,11 @@ same_components files main first second a b = (units_once one_document one_text_
 
 pub same_picture : (files : Store) (main : List ℕ) (first second : UnitOf) → HasRunUnit files main first → HasRunUnit files main second → picture_of first ≡ picture_of second
 unfolding picture_of
-same_picture files main first second a b = ap (λ cs. picture_in (started_first cs)) (same_components files main first second a.has b.has)
+same_picture files main first second a b = ap (λ cs. picture_with (started_first cs)) (same_components files main first second a.has b.has)
+
+pub same_notes : (files : Store) (main : List ℕ) (first second : UnitOf) → HasRunUnit files main first → HasRunUnit files main second → notes_of first ≡ notes_of second
+unfolding notes_of
+same_notes files main first second a b = ap (λ cs. notes_with (started_first cs)) (same_components files main first second a.has b.has)
 
 same_some : {A : Type 0} (o : Option A) (x y : A) → o ≡ Some x → o ≡ Some y → x ≡ y
 same_some o x y e f = let both : ◌≡◌ {A = Option _} (Some x) (Some y) = sym e ∙ f in cc

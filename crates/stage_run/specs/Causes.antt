@@ -11,7 +11,7 @@ use Rattle.stage_run.specs.declared.status.Status.TheVariants as status
 use Rattle.stage_run.specs.Documents.{HasRunUnit, HasFault, IsOfDocuments}
 use Rattle.stage_run.specs.Moves.{commands}
 use Rattle.stage_run.specs.Script.{IsScript, IsFirstBadLine}
-use Rattle.stage_run.specs.Shown.{StartHolds}
+use Rattle.stage_run.specs.Shown.{StartHolds, notes_of}
 use Rattle.stage_run.specs.Words.{main_of, script_of, AreLawful}
 use Rattle.stage_run.specs.Written.{written}
 use Rattle.type_loader.specs.declared.unit.Unit.{Unit as UnitOf}
@@ -57,7 +57,7 @@ RefusesDocument held name before after status.WriteFault = ⊥
 RefusesDocument held name before after status.NoMemory = Unit {0}
 
 -- what a run took and left: the words, the files, the counts of faults before and after, the bytes of
--- the frames before and after, and the moves
+-- the frames and of the notes before and after, and the moves
 pub record Run : Type 0 where
   pub words : List (List ℕ)
   pub held : Option Store
@@ -65,25 +65,32 @@ pub record Run : Type 0 where
   pub reads_after : ℕ
   pub writes_before : ℕ
   pub writes_after : ℕ
+  pub notings_before : ℕ
+  pub notings_after : ℕ
   pub frames_before : Option (List ℕ)
   pub frames_after : Option (List ℕ)
+  pub notes_before : Option (List ℕ)
+  pub notes_after : Option (List ℕ)
   pub journal : List Move
 
 -- nothing moved and nothing was written
 pub record IsIdle (r : Run) : Type 0 where
   pub no_moves : r.journal ≡ []
   pub no_bytes : Keeps r.frames_before r.frames_after
+  pub no_notes : Keeps r.notes_before r.notes_after
 
--- every command of an accepted script was applied, and the frames are those of an accepted unit, whose objects are
--- settled
+-- every command of an accepted script was applied, the frames are those of an accepted unit, whose objects are
+-- settled, and all is noted that its start tells
 pub record IsWhole (r : Run) (count : ℕ) (unit : UnitOf) : Type 0 where
   pub few : count ≤ 100000
   pub accepted : Accepts r.held r.words count unit
   pub settled : StartHolds unit.components
   pub moves : r.journal ≡ commands count
   pub bytes : Appends r.frames_before r.frames_after (written unit r.journal)
+  pub notes : Appends r.notes_before r.notes_after (notes_of unit)
 
--- the first commands of an accepted script were applied, and a prefix of their frames was written
+-- the first commands of an accepted script were applied, a prefix of their frames was written, and a prefix of what the
+-- start tells was noted: all of it where a command was applied
 pub record IsPart (r : Run) (count done : ℕ) (unit : UnitOf) : Type 0 where
   pub few : count ≤ 100000
   pub within : done ≤ count
@@ -91,6 +98,8 @@ pub record IsPart (r : Run) (count done : ℕ) (unit : UnitOf) : Type 0 where
   pub settled : StartHolds unit.components
   pub moves : r.journal ≡ commands done
   pub bytes : AppendsPart r.frames_before r.frames_after (written unit r.journal)
+  pub notes : AppendsPart r.notes_before r.notes_after (notes_of unit)
+  pub noted_first : (done ≡ 0 → ⊥) → Appends r.notes_before r.notes_after (notes_of unit)
 
 -- the cause of each status, after lawful words
 abbrev pub Ends : Run → Status → Type 0
@@ -102,7 +111,7 @@ Ends r (status.BadDocument fault) =
     IsIdle r × IsOfDocuments fault
     × IfSome r.held (λ files. ((count : ℕ) × HasScript (get files (script_of r.words)) count) × HasFault files (main_of r.words) fault)
 Ends r status.ReadFault = IsIdle r × Rose r.reads_before r.reads_after
-Ends r status.WriteFault = Rose r.writes_before r.writes_after × ((count : ℕ) × (done : ℕ) × (unit : UnitOf) × IsPart r count done unit)
+Ends r status.WriteFault = (Rose r.writes_before r.writes_after ⊎ Rose r.notings_before r.notings_after) × ((count : ℕ) × (done : ℕ) × (unit : UnitOf) × IsPart r count done unit)
 Ends r status.NoMemory = IsIdle r ⊎ ((count : ℕ) × (done : ℕ) × (unit : UnitOf) × IsPart r count done unit)
 
 -- the words aren't lawful and nothing moved, or they are and the status has its cause
@@ -135,17 +144,22 @@ pub record IsSound (r : Run) (files : Store) : Type 0 where
   pub document : HasRunUnit files (main_of r.words) unit
   pub reads : Rose r.reads_before r.reads_after → ⊥
   pub writes : Rose r.writes_before r.writes_after → ⊥
+  pub notings : Rose r.notings_before r.notings_after → ⊥
 
--- what a run took and left, from its parts
-abbrev pub run_of : List (List ℕ) → Option Store → ℕ → ℕ → ℕ → ℕ → Option (List ℕ) → Option (List ℕ) → List Move → Run
-run_of words held reads_before reads_after writes_before writes_after frames_before frames_after journal = record {
+-- what a run took and left, from its parts: of what has changed, what was before and after
+abbrev pub run_of : List (List ℕ) → Option Store → ℕ × ℕ → ℕ × ℕ → ℕ × ℕ → Option (List ℕ) × Option (List ℕ) → Option (List ℕ) × Option (List ℕ) → List Move → Run
+run_of words held reads writes notings frames notes journal = record {
   words = words;
   held = held;
-  reads_before = reads_before;
-  reads_after = reads_after;
-  writes_before = writes_before;
-  writes_after = writes_after;
-  frames_before = frames_before;
-  frames_after = frames_after;
+  reads_before = reads.0;
+  reads_after = reads.1;
+  writes_before = writes.0;
+  writes_after = writes.1;
+  notings_before = notings.0;
+  notings_after = notings.1;
+  frames_before = frames.0;
+  frames_after = frames.1;
+  notes_before = notes.0;
+  notes_after = notes.1;
   journal = journal;
 }

@@ -6,13 +6,16 @@ ghost use Rattle.outside.specs.Store.{Store};
 ghost use Rattle.qml_ast.specs.declared.fault.LoadFault.{LoadFault};
 ghost use Rattle.stage_run.specs.Documents.{HasRunUnit, HasFault};
 ghost use Rattle.stage_run.specs.Script.{IsScript, IsFirstBadLine};
-ghost use Rattle.stage_run.specs.Shown.{picture_of};
+ghost use Rattle.stage_run.specs.Shown.{picture_of, notes_of};
 ghost use Rattle.type_loader.specs.declared.unit.Unit.{Unit as UnitOf};
 
-/// Told files show one picture of a main document, so the frames of a run are a function of its files.
+/// Told files show one picture of a main document and tell one list of notes, so the frames and the notes of a
+/// run are a function of its files.
 pub fn one_painting()
-    ensures { (files : Store) (main : List ℕ) (first second : UnitOf) → HasRunUnit files main first →
+    ensures pictures { (files : Store) (main : List ℕ) (first second : UnitOf) → HasRunUnit files main first →
         HasRunUnit files main second → picture_of first ≡ picture_of second }
+    ensures notes { (files : Store) (main : List ℕ) (first second : UnitOf) → HasRunUnit files main first →
+        HasRunUnit files main second → notes_of first ≡ notes_of second }
 {}
 
 /// Told files have one fault of a main document at most, and none where its unit is run.

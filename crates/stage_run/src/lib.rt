@@ -11,6 +11,7 @@ mod sources;
 pub mod stage;
 mod start;
 pub mod status;
+mod telling;
 pub mod words;
 
 pub use journal::{Journal, Move};

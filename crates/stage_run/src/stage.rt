@@ -6,9 +6,10 @@ ghost use Rattle.stage_run.specs.declared.status.Status.TheVariants as statuses;
 
 use crate::frames::write_frames;
 use crate::journal::Journal;
-use crate::picture::main_picture;
+use crate::picture::{Opening, main_opening};
 use crate::sources::fetch_script;
 use crate::status::Status;
+use crate::telling::write_notes;
 use crate::words::Words;
 use outside::{Files, Sink};
 use std::alloc::Global;
@@ -24,11 +25,13 @@ pub struct Outcome<F, S, N> {
 }
 
 /// Runs the script of the words on their document: for each `frame` line of the script one image of
-/// 640 by 480 pixels goes to `frames`, as a binary pixmap (Netpbm P6). Nothing goes to `notes`.
+/// 640 by 480 pixels goes to `frames`, as a binary pixmap (Netpbm P6). What the document's start tells goes to
+/// `notes` before that, line by line: loops and faults of bindings and of handlers, limits that were met, and
+/// what handlers log.
 ///
 /// The first of these that fails gives the status: the words; the fetch of the script, of at most 4 MiB;
 /// its lines; the load of the document with all documents that it mentions; the first of their places that
-/// isn't run yet; each frame's write. `NoMemory` may stand in place of any but `Usage`. The counts of failed
+/// isn't run yet; the write of the notes; each frame's write. `NoMemory` may stand in place of any but `Usage`. The counts of failed
 /// reads and writes never fall.
 pub fn run<F: Files, S: Sink, N: Sink>(
     alloc: Global,
@@ -38,22 +41,23 @@ pub fn run<F: Files, S: Sink, N: Sink>(
     notes: N,
 ) -> Outcome<F, S, N>
     ensures files { F.held result.files ≡ F.held files }
-    ensures notes { result.notes ≡ notes }
     ensures reads { F.faults files ≤ F.faults result.files }
     ensures writes { S.faults frames ≤ S.faults result.frames }
+    ensures notings { N.faults notes ≤ N.faults result.notes }
     ensures cause { HasCause (run_of words.now (F.held files)
-        (F.faults files) (F.faults result.files) (S.faults frames) (S.faults result.frames)
-        (S.contents frames) (S.contents result.frames) result.journal) result.status }
+        (F.faults files, F.faults result.files) (S.faults frames, S.faults result.frames) (N.faults notes, N.faults result.notes)
+        (S.contents frames, S.contents result.frames) (N.contents notes, N.contents result.notes) result.journal) result.status }
     ensures usage { (AreLawful words.now → ⊥) → result.status ≡ statuses.Usage }
     ensures complete { (told : Store) → IsSound (run_of words.now (F.held files)
-        (F.faults files) (F.faults result.files) (S.faults frames) (S.faults result.frames)
-        (S.contents frames) (S.contents result.frames) result.journal) told
+        (F.faults files, F.faults result.files) (S.faults frames, S.faults result.frames) (N.faults notes, N.faults result.notes)
+        (S.contents frames, S.contents result.frames) (N.contents notes, N.contents result.notes) result.journal) told
         → IsDoneOrNoMemory result.status }
 {
     let mut files = files;
     let mut frames = frames;
+    let mut notes = notes;
     let mut journal = Journal::new(alloc);
-    let status = play(alloc, words, &mut files, &mut frames, &mut journal);
+    let status = play(alloc, words, &mut files, &mut frames, &mut notes, &mut journal);
     Outcome {
         status,
         files,
@@ -64,36 +68,39 @@ pub fn run<F: Files, S: Sink, N: Sink>(
 }
 
 /// The run over a journal that is empty.
-fn play<F: Files, S: Sink>(
+fn play<F: Files, S: Sink, N: Sink>(
     alloc: Global,
     words: &Words,
     files: &mut F,
     frames: &mut S,
+    notes: &mut N,
     journal: &mut Journal,
 ) -> Status
     requires { journal.old ≡ [] }
     ensures files { F.held files.new ≡ F.held files.old }
     ensures reads { F.faults files.old ≤ F.faults files.new }
     ensures writes { S.faults frames.old ≤ S.faults frames.new }
+    ensures notings { N.faults notes.old ≤ N.faults notes.new }
     ensures cause { HasCause (run_of words.now (F.held files.old)
-        (F.faults files.old) (F.faults files.new) (S.faults frames.old) (S.faults frames.new)
-        (S.contents frames.old) (S.contents frames.new) journal.new) result }
+        (F.faults files.old, F.faults files.new) (S.faults frames.old, S.faults frames.new) (N.faults notes.old, N.faults notes.new)
+        (S.contents frames.old, S.contents frames.new) (N.contents notes.old, N.contents notes.new) journal.new) result }
 {
     if !words.are_lawful() {
         return Status::Usage;
     }
-    match perform(alloc, words, files, frames, journal) {
+    match perform(alloc, words, files, frames, notes, journal) {
         Ok(()) => Status::Done,
         Err(status) => status,
     }
 }
 
 /// The run after lawful words.
-fn perform<F: Files, S: Sink>(
+fn perform<F: Files, S: Sink, N: Sink>(
     alloc: Global,
     words: &Words,
     files: &mut F,
     frames: &mut S,
+    notes: &mut N,
     journal: &mut Journal,
 ) -> Result<(), Status>
     requires lawful { AreLawful words.now }
@@ -101,14 +108,19 @@ fn perform<F: Files, S: Sink>(
     ensures files { F.held files.new ≡ F.held files.old }
     ensures reads { F.faults files.old ≤ F.faults files.new }
     ensures writes { S.faults frames.old ≤ S.faults frames.new }
+    ensures notings { N.faults notes.old ≤ N.faults notes.new }
     ensures done { OnOk result (Ends (run_of words.now (F.held files.old)
-        (F.faults files.old) (F.faults files.new) (S.faults frames.old) (S.faults frames.new)
-        (S.contents frames.old) (S.contents frames.new) journal.new) statuses.Done) }
+        (F.faults files.old, F.faults files.new) (S.faults frames.old, S.faults frames.new) (N.faults notes.old, N.faults notes.new)
+        (S.contents frames.old, S.contents frames.new) (N.contents notes.old, N.contents notes.new) journal.new) statuses.Done) }
     ensures ended { IfErr result (Ends (run_of words.now (F.held files.old)
-        (F.faults files.old) (F.faults files.new) (S.faults frames.old) (S.faults frames.new)
-        (S.contents frames.old) (S.contents frames.new) journal.new)) }
+        (F.faults files.old, F.faults files.new) (S.faults frames.old, S.faults frames.new) (N.faults notes.old, N.faults notes.new)
+        (S.contents frames.old, S.contents frames.new) (N.contents notes.old, N.contents notes.new) journal.new)) }
 {
     let count = fetch_script(alloc, files, words.at(1))?;
-    let canvas = main_picture(alloc, files, words.at(0))?;
+    let Opening {
+        canvas,
+        notes: told,
+    } = main_opening(alloc, files, words.at(0))?;
+    write_notes(told.as_slice(), notes)?;
     write_frames(&canvas, count, journal, frames)
 }

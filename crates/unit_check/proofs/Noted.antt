@@ -23,15 +23,6 @@ pub noted_all : {X : Type 0} (places : X → List Span) (xs : List X) (i : ℕ) 
     fold earlier first (flat_map places (drop i xs)) ≡ all → first ≡ all
 noted_all places xs i first all past before = sym (at_drop_all (λ ys. fold earlier first (flat_map places ys)) xs i past) ∙ before
 
--- five kinds of places, one behind another
-pub noted_five : (a b c d e : List Span) (f0 f1 f2 f3 f4 f5 : Option Span) → f1 ≡ fold earlier f0 a → f2 ≡ fold earlier f1 b → f3 ≡ fold earlier f2 c →
-    f4 ≡ fold earlier f3 d → f5 ≡ fold earlier f4 e → f5 ≡ fold earlier f0 (a ++ (b ++ (c ++ (d ++ e))))
-noted_five a b c d e f0 f1 f2 f3 f4 f5 is1 is2 is3 is4 is5 = sym
-    (fold-append earlier f0 a (b ++ (c ++ (d ++ e))) ∙ (ap (λ f. fold earlier f (b ++ (c ++ (d ++ e)))) (sym is1)
-    ∙ (fold-append earlier f1 b (c ++ (d ++ e)) ∙ (ap (λ f. fold earlier f (c ++ (d ++ e))) (sym is2)
-    ∙ (fold-append earlier f2 c (d ++ e) ∙ (ap (λ f. fold earlier f (d ++ e)) (sym is3)
-    ∙ (fold-append earlier f3 d e ∙ (ap (λ f. fold earlier f e) (sym is4) ∙ sym is5))))))))
-
 -- the first of the documents that are left has such a place
 pub place_found : (components : List ComponentType) (i : ℕ) (component : ComponentType) (at : Span) (all : Option Unrun) → i < length components →
     component ≡ get_or components i component → Some at ≡ first_place component → first_behind i (drop i components) ≡ all →

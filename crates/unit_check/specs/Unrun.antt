@@ -1,17 +1,14 @@
 -- What isn't run yet of lawful documents.
-use Rattle.std.specs.Prelude.{ℕ, ◌+◌, Bool, true, false, ◌&&◌, ◌||◌, ◌==◌, nat_lt, Option, Some, None, List, [], ◌∷◌, ◌++◌, map, flat_map, fold, if◌then◌else◌}
+use Rattle.std.specs.Prelude.{ℕ, ◌+◌, Bool, true, false, ◌&&◌, ◌||◌, ◌==◌, nat_lt, Option, Some, None, List, [], ◌∷◌, ◌++◌, flat_map, fold, if◌then◌else◌}
 use Rattle.std.specs.List.{slice_get}
 use Rattle.qml_ast.specs.declared.span.Span.{Span}
 use Rattle.qml_types.specs.declared.component.Base.{Base}
 use Rattle.qml_types.specs.declared.component.Base.TheVariants as base
 use Rattle.qml_types.specs.declared.component.ComponentType.{ComponentType, out-ComponentType}
-use Rattle.qml_types.specs.declared.component.HandlerDecl.{HandlerDecl}
 use Rattle.qml_types.specs.declared.component.InitDecl.{InitDecl}
-use Rattle.qml_types.specs.declared.component.MethodDecl.{MethodDecl}
 use Rattle.qml_types.specs.declared.component.ObjectDecl.{ObjectDecl, out-ObjectDecl}
 use Rattle.qml_types.specs.declared.component.Role.{Role}
 use Rattle.qml_types.specs.declared.component.Role.TheVariants as role
-use Rattle.qml_types.specs.declared.component.SignalDecl.{SignalDecl}
 use Rattle.type_table.specs.declared.built_in.BuiltIn.{BuiltIn}
 use Rattle.type_table.specs.declared.built_in.BuiltIn.TheVariants as built_in
 use Rattle.unit_check.specs.Bases.{kind_of}
@@ -65,24 +62,9 @@ type_places objects object =
 unfoldable pub init_place : BuiltIn → InitDecl → List Span
 init_place t init = unless (is_run t init) init.span
 
--- its signals, functions and handlers, of which none is run
-abbrev pub signal_place : SignalDecl → Span
-signal_place signal = signal.span
-
-abbrev pub method_place : MethodDecl → Span
-method_place method = method.span
-
-abbrev pub handler_place : HandlerDecl → Span
-handler_place handler = handler.span
-
 -- what isn't run of an object that stands among these
 unfoldable pub object_places : List ObjectDecl → ObjectDecl → List Span
-object_places objects object =
-    type_places objects object
-    ++ (flat_map (init_place (kind_of object)) (out-ObjectDecl object).inits
-    ++ (map signal_place (out-ObjectDecl object).signals
-    ++ (map method_place (out-ObjectDecl object).methods
-    ++ map handler_place (out-ObjectDecl object).handlers)))
+object_places objects object = type_places objects object ++ flat_map (init_place (kind_of object)) (out-ObjectDecl object).inits
 
 -- ---- documents
 -- what isn't run of a document

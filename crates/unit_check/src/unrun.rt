@@ -1,12 +1,10 @@
-ghost use Rattle.std.specs.Prelude.{◌≡◌, ◌<◌, length, map, flat_map, fold, IfSome};
-ghost use Rattle.unit_check.specs.Unrun.{earlier, unless, is_run_type, is_run_role, is_run_value, owner_in, type_places, init_place, signal_place, method_place, handler_place, object_places, first_place, first_unrun};
+ghost use Rattle.std.specs.Prelude.{◌≡◌, ◌<◌, length, flat_map, fold, IfSome};
+ghost use Rattle.unit_check.specs.Unrun.{earlier, unless, is_run_type, is_run_role, is_run_value, owner_in, type_places, init_place, object_places, first_place, first_unrun};
 
 use crate::bases::kind_of;
 use crate::inits::{is_built_in_path, is_run};
 use qml_ast::Span;
-use qml_types::{
-    Base, ComponentType, HandlerDecl, InitDecl, MethodDecl, ObjectDecl, Role, SignalDecl,
-};
+use qml_types::{Base, ComponentType, InitDecl, ObjectDecl, Role};
 use shared_value::Shared;
 use type_table::BuiltIn;
 
@@ -96,39 +94,12 @@ fn note_inits(built_in: BuiltIn, inits: &[InitDecl], first: &mut Option<Span>)
     }
 }
 
-fn note_signals(signals: &[SignalDecl], first: &mut Option<Span>)
-    ensures { first.new ≡ fold earlier first.old (map signal_place signals.now) }
-{
-    for signal in signals {
-        note(signal.span, first);
-    }
-}
-
-fn note_methods(methods: &[MethodDecl], first: &mut Option<Span>)
-    ensures { first.new ≡ fold earlier first.old (map method_place methods.now) }
-{
-    for method in methods {
-        note(method.span, first);
-    }
-}
-
-fn note_handlers(handlers: &[HandlerDecl], first: &mut Option<Span>)
-    ensures { first.new ≡ fold earlier first.old (map handler_place handlers.now) }
-{
-    for handler in handlers {
-        note(handler.span, first);
-    }
-}
-
 // Notes what isn't run of an object that stands among these.
 fn note_object(objects: &[ObjectDecl], object: &ObjectDecl, first: &mut Option<Span>)
     ensures { first.new ≡ fold earlier first.old (object_places objects.now object.now) }
 {
     note_type(objects, object, first);
     note_inits(kind_of(object), object.inits.as_slice(), first);
-    note_signals(object.signals.as_slice(), first);
-    note_methods(object.methods.as_slice(), first);
-    note_handlers(object.handlers.as_slice(), first);
 }
 
 // The first place of a document that isn't run.
@@ -146,8 +117,7 @@ fn first_place(component: &ComponentType) -> Option<Span>
 /// The first place that isn't run yet of lawful documents, whose component types these are: of the first
 /// document that has one, which is told by its number from 0, the first by line and column.
 ///
-/// Not run are the type names but `QtObject`, `Item`, `Rectangle` and those of documents; signals, functions
-/// and handlers; and each initialiser but those of declared properties, of `x`, `y`, `width` and `height`,
+/// Not run are the type names but `QtObject`, `Item`, `Rectangle` and those of documents, and each initialiser but those of declared properties, of `x`, `y`, `width` and `height`,
 /// and of a Rectangle's `color`, where that is no text that spells a colour which lets something through. An
 /// object that is another slot's value has the place of its type's name.
 pub fn first_unrun(components: &[Shared<ComponentType>]) -> Option<Unrun>

@@ -1,4 +1,0 @@
-use Rattle.stage_run.proofs.picture.main_picture.Goals as goal
-
-pub returns-clause-shown : goal.returns-clause-shown
-returns-clause-shown g c = (c.in_ok-unit.unit, c.in_ok-canvas.ensures, c.in_ok-unit.ensures.read)
