@@ -19,7 +19,7 @@ returns-clause-done g c =
     (accepted (F.held c.args.files.now) (F.held c.fetch_script.new.files) c.args.words.now c.at.result.now c.at-2.result.now c.in_ok-count.count drawn.0
     c.at.ensures c.at-2.ensures c.fetch_script.ensures.held c.in_ok-count.ensures.read drawn.3)
     (image-drawn c.in_ok-canvas.canvas drawn.0 (sym c.in_ok-canvas.canvas-is ∙ drawn.1))
-    (c.as_slice.ensures.value ∙ (ap (λ v. v.items) (sym c.in_ok-canvas.told-is) ∙ drawn.2)) c.in_ok-write_notes.ensures.whole
+    (c.as_slice.ensures.value ∙ drawn.2) c.in_ok-write_notes.ensures.whole
     c.write_frames.ensures.moves c.write_frames.ensures.bytes
 
 pub returns-clause-ended : goal.returns-clause-ended
@@ -34,7 +34,7 @@ returns-clause-ended g c =
     (accepted (F.held c.args.files.now) (F.held c.fetch_script.new.files) c.args.words.now c.at.result.now c.at-2.result.now c.in_ok-count.count drawn.0
     c.at.ensures c.at-2.ensures c.fetch_script.ensures.held c.in_ok-count.ensures.read drawn.3)
     (image-drawn c.in_ok-canvas.canvas drawn.0 (sym c.in_ok-canvas.canvas-is ∙ drawn.1))
-    (c.as_slice.ensures.value ∙ (ap (λ v. v.items) (sym c.in_ok-canvas.told-is) ∙ drawn.2)) c.in_ok-write_notes.ensures.whole
+    (c.as_slice.ensures.value ∙ drawn.2) c.in_ok-write_notes.ensures.whole
     c.write_frames.ensures.stopped
 
 pub returns-in_err-canvas-clause-ended : goal.returns-in_err-canvas-clause-ended
@@ -56,6 +56,6 @@ returns-in_err-write_notes-clause-ended g c =
     let ended = ended-untold run c.in_err-write_notes.field-0.0 c.as_slice.result.now c.in_ok-count.count drawn.0 c.in_ok-count.ensures.few
         (accepted (F.held c.args.files.now) (F.held c.fetch_script.new.files) c.args.words.now c.at.result.now c.at-2.result.now c.in_ok-count.count drawn.0
         c.at.ensures c.at-2.ensures c.fetch_script.ensures.held c.in_ok-count.ensures.read drawn.3)
-        (c.as_slice.ensures.value ∙ (ap (λ v. v.items) (sym c.in_ok-canvas.told-is) ∙ drawn.2)) c.requires.empty kept
+        (c.as_slice.ensures.value ∙ drawn.2) c.requires.empty kept
         c.in_err-write_notes.ensures.part c.in_err-write_notes.ensures.failed c.in_err-write_notes.ensures.status in
     first_of (search rules, cc, grind (arith, common_steps))
