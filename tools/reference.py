@@ -9,6 +9,7 @@ run as functions that call each other, and the pixels are painted one by one. No
 program writes them. It knows no refusals: a document that is not drawn, or a script of another form, ends it with an
 error.
 """
+import bisect
 import re
 import sys
 import threading
@@ -65,6 +66,7 @@ class Reader:
         with open(path, encoding="utf-8", newline="") as file:
             self.text = file.read()
         self.place = 1 if self.text.startswith("\ufeff") else 0
+        self.lines = [0] + [match.end() for match in re.finditer("\n", self.text)]
         self.step()
 
     def step(self):
@@ -80,9 +82,8 @@ class Reader:
 
     def at(self):
         """The line and the column of the token, in bytes."""
-        before = self.text[: self.begins]
-        line_begins = before.rfind("\n") + 1
-        return before.count("\n") + 1, len(before[line_begins:].encode()) + 1
+        line = bisect.bisect_right(self.lines, self.begins)
+        return line, len(self.text[self.lines[line - 1] : self.begins].encode()) + 1
 
     def is_mark(self, *marks):
         return self.kind == "mark" and self.token in marks
@@ -449,7 +450,7 @@ class Node:
     def __init__(self, kind, owner, serial):
         self.kind, self.owner, self.serial, self.children = kind, owner, serial, []
         self.kinds, self.bound, self.values, self.settled = dict(SLOTS[kind]), {}, {}, {}
-        self.read_only, self.signals, self.methods, self.handlers = set(), {}, {}, []
+        self.written, self.read_only, self.signals, self.methods, self.handlers = set(), set(), {}, {}, []
         self.type_at = None
         for name in self.kinds:
             self.begin(name)
@@ -785,6 +786,7 @@ class Stage:
         """A write takes the place of what the slot was bound to; all is settled, and what has changed is handled."""
         side = "set" if node.has_sides(name) else "shown"
         node.values[name, side] = value
+        node.written.add(name)
         node.bound.pop(name, None)
         self.marks.pop((node, name, side), None)
         self.suspended -= {place for place in self.suspended if place[0] is node}
@@ -969,21 +971,50 @@ def taken(kind, value):
     raise Fault("wrong kind")
 
 
-def paint(pixels, node, left, top):
-    if node.kind == "QtObject":
+def rectangles(node):
+    """What a Rectangle covers by itself, each with its colour; with a border where its group was written."""
+    width, height, color = (node.values[name, "shown"] for name in ("width", "height", "color"))
+    edge, edge_color = node.values["border.width", "shown"], node.values["border.color", "shown"]
+    if width <= 0 or height <= 0:
+        return []
+    if edge <= 0 or not node.written & {"border.width", "border.color"}:
+        return [(0, 0, width, height, color)]
+    if 2 * edge >= min(width, height):
+        return [(0, 0, width, height, edge_color)]
+    inside, across, down = (edge, edge, width - 2 * edge, height - 2 * edge, color), width - edge, height - edge
+    edges = [(0, 0, width, edge), (0, down, width, edge), (0, edge, edge, height - 2 * edge)]
+    edges.append((across, edge, edge, height - 2 * edge))
+    return [inside] + [place + (edge_color,) for place in edges]
+
+
+def cover(pixels, rectangle, left, top, window):
+    """A rectangle's colour over the pixels that it has in the window: its edges left, top, right and bottom."""
+    x, y, width, height, color = rectangle
+    alpha, channels = color >> 24, [color >> shift & 255 for shift in (16, 8, 0)]
+    for row in range(max(top + y, window[1]), min(top + y + height, window[3])):
+        for column in range(max(left + x, window[0]), min(left + x + width, window[2])):
+            at = 3 * (row * WIDTH + column)
+            for k in range(3):
+                pixels[at + k] = (channels[k] * alpha + pixels[at + k] * (255 - alpha) + 127) // 255
+
+
+def paint(pixels, node, left, top, window):
+    if node.kind == "QtObject" or not node.values["visible", "shown"]:
         return
     shown = lambda name: node.values[name, "shown"]
     left, top = left + shown("x"), top + shown("y")
-    if node.kind == "Rectangle":
-        alpha = shown("color") >> 24
-        color = [shown("color") >> shift & 255 for shift in (16, 8, 0)]
-        for row in range(max(top, 0), min(top + shown("height"), HEIGHT)):
-            for column in range(max(left, 0), min(left + shown("width"), WIDTH)):
-                at = 3 * (row * WIDTH + column)
-                for k in range(3):
-                    pixels[at + k] = (color[k] * alpha + pixels[at + k] * (255 - alpha) + 127) // 255
-    for child in node.children:
-        paint(pixels, child, left, top)
+    if shown("clip"):
+        edges = left, top, left + shown("width"), top + shown("height")
+        window = *map(max, window[:2], edges[:2]), *map(min, window[2:], edges[2:])
+    children = [child for child in node.children if child.kind != "QtObject"]
+    children.sort(key=lambda child: child.values["z", "shown"])
+    below = [child for child in children if child.values["z", "shown"] < 0]
+    for child in below:
+        paint(pixels, child, left, top, window)
+    for rectangle in rectangles(node) if node.kind == "Rectangle" else []:
+        cover(pixels, rectangle, left, top, window)
+    for child in children[len(below) :]:
+        paint(pixels, child, left, top, window)
 
 
 def main():
@@ -1000,7 +1031,7 @@ def main():
     if objects > MOST_OBJECTS or levels > MOST_LEVELS:
         stage.note_at((sys.argv[1], (1, 1)), "object limit" if objects > MOST_OBJECTS else "depth limit")
     else:
-        paint(pixels, stage.start(), 0, 0)
+        paint(pixels, stage.start(), 0, 0, (0, 0, WIDTH, HEIGHT))
     image = b"P6\n%d %d\n255\n" % (WIDTH, HEIGHT) + bytes(pixels)
     for _ in lines:
         sys.stdout.buffer.write(image)
