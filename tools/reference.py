@@ -6,14 +6,16 @@ usage: tools/reference.py MAIN SCRIPT > frames.ppm 2> notes
 It shares nothing with the program: documents are read by a small parser of their own into dictionaries and tuples,
 objects are made of them with all that their types bring, slots are brought up to date by plain recursion, handlers
 run as functions that call each other, and the pixels are painted one by one. Notes go to standard error as the
-program writes them. It knows no refusals: a document that is not drawn, or a script of another form, ends it with an
-error.
+program writes them. A document that is refused is told as the program tells it, with exit status 4; the grammar's
+faults are those of reference_parser.py. A script of another form ends it with an error.
 """
 import bisect
 import re
 import sys
 import threading
 from typing import NamedTuple
+
+import reference_parser
 
 WIDTH, HEIGHT = 640, 480
 MOST_OBJECTS, MOST_LEVELS = 99_999, 256
@@ -113,7 +115,7 @@ class Reader:
         """The object whose type's name has been read, at that place."""
         self.take("{")
         found = {"type": type_name, "at": at, "id": None, "set": {}, "declared": {}, "fixed": set(), "members": []}
-        found |= {"signals": {}, "methods": {}, "handlers": []}
+        found |= {"signals": {}, "methods": {}, "handlers": [], "told": []}
         while not self.is_mark("}"):
             self.member(found)
         self.step()
@@ -123,22 +125,30 @@ class Reader:
         at, first = self.at(), self.step()
         if first == "id" and self.token == ":":
             self.step()
+            at = self.at()
             found["id"] = self.step()
+            found["told"].append(("id", at, found["id"]))
             self.end()
         elif first in ("property", "readonly"):
             if first == "readonly":
                 self.take("property")
-            kind, at = self.step(), self.at()
-            self.declared(found, kind, self.step(), at, first == "readonly")
+            kind_at, kind = self.at(), self.step()
+            at, name = self.at(), self.step()
+            found["told"].append(("property", at, name, (kind, kind_at), first == "readonly", self.token == ":"))
+            self.declared(found, kind, name, at, first == "readonly")
         elif first == "signal":
-            self.signal(found, self.step())
+            at = self.at()
+            self.signal(found, self.step(), at)
         elif first == "function":
-            name = self.step()
-            found["methods"][name] = self.names(), self.block()
+            at, name = self.at(), self.step()
+            params = self.names()
+            found["told"].append(("method", at, name, [], params))
+            found["methods"][name] = [param for param, _ in params], self.block()
         elif self.token == ":" or self.token == ".":
             self.initialiser(found, first, at)
         elif first[0].isupper():
             found["members"].append((None, self.object(first, at)))
+            found["told"].append(("child", at, found["members"][-1][1]))
         else:
             self.group(found, first)
 
@@ -151,25 +161,29 @@ class Reader:
         else:
             self.end()
 
-    def signal(self, found, name):
-        params = []
+    def signal(self, found, name, at):
+        params, kinds, names = [], [], []
         if self.is_mark("("):
             self.step()
             while not self.is_mark(")"):
+                kinds.append((self.token, self.at()))
                 kind = self.step()
+                names.append((self.token, self.at()))
                 params.append((kind, self.step()))
                 if not self.is_mark(")"):
                     self.take(",")
             self.step()
         found["signals"][name] = params
+        found["told"].append(("signal", at, name, kinds, names))
         self.end()
 
     def names(self):
-        """The names of a method's parameters."""
+        """The names of a method's parameters, with their places."""
         names = []
         self.take("(")
         while not self.is_mark(")"):
-            names.append(self.step())
+            names.append((self.token, self.at()))
+            self.step()
             if not self.is_mark(")"):
                 self.take(",")
         self.step()
@@ -183,6 +197,7 @@ class Reader:
             path += "." + last
         self.take(":")
         if re.match("on[A-Z]", last):
+            found["told"].append(("handler", at, path))
             found["handlers"].append((path, self.statement(), at))
         else:
             self.value(found, path, at)
@@ -196,17 +211,18 @@ class Reader:
         self.step()
 
     def value(self, found, path, at):
-        if path in found["set"]:
-            raise ValueError(f"{path} is given twice")
         before = self.place, self.kind, self.token, self.begins, self.on_a_later_line
         if self.kind == "name" and self.token[0].isupper():
             place, name = self.at(), self.step()
             if self.is_mark("{"):
                 found["set"][path] = None
                 found["members"].append((path, self.object(name, place)))
+                found["told"].append(("init", at, path, None, found["members"][-1][1]))
                 return
             self.place, self.kind, self.token, self.begins, self.on_a_later_line = before
         found["set"][path] = self.expression(), at
+        literal = (found["set"][path][0][1], self.literal_at) if found["set"][path][0][0] == "value" else None
+        found["told"].append(("init", at, path, literal, None))
 
     # Statements are tuples: what they are, and their parts.
     def block(self):
@@ -324,6 +340,7 @@ class Reader:
             inner = self.expression()
             self.take(")")
             return inner
+        self.literal_at = self.at()
         if self.kind == "number":
             return "value", int(self.step(), 0)
         if self.kind == "text":
@@ -369,6 +386,262 @@ class Returned(Exception):
 
 class Halted(Exception):
     """A limit was met, which ends all that runs."""
+
+
+class Types:
+    """The built-in types with their slots, read-only ones, signals and methods, to judge documents by."""
+
+    BASIC = ("int", "real", "double", "bool", "string", "url", "color", "var", "variant")
+
+    def __init__(self):
+        item, lines = dict(SLOTS["Item"]), set(EDGES) | {"parent"}
+        lines |= {f"childrenRect.{name}" for name in ("x", "y", "width", "height")}
+        implicit = lines | {"implicitWidth", "implicitHeight"}
+        loader = {"active": "bool", "asynchronous": "bool", "source": "string", "sourceComponent": "Component"}
+        loader |= {"status": "int", "item": "object"}
+        mouse = {"pressed": "bool", "mouseX": "int", "mouseY": "int"}
+        timer = {"interval": "int", "repeat": "bool", "running": "bool", "triggeredOnStart": "bool"}
+        self.known = {}
+        self.add("QtObject", SLOTS["QtObject"])
+        self.add("Item", item, lines)
+        self.add("Rectangle", SLOTS["Rectangle"], lines)
+        self.add("Row", item | {"spacing": "int", "layoutDirection": "int"}, implicit)
+        self.add("Column", item | {"spacing": "int"}, implicit)
+        self.add("MouseArea", item | mouse, lines | set(mouse), ["pressed", "released", "clicked"])
+        self.add("Timer", SLOTS["QtObject"] | timer, (), ["triggered"], ["start", "stop", "restart"])
+        self.add("Loader", item | loader, implicit | {"status", "item"}, ["loaded"])
+        self.add("Component", SLOTS["QtObject"])
+        self.built_in = set(self.known)
+
+    def add(self, name, slots, read_only=(), signals=(), methods=(), base=None):
+        self.known[name] = dict(
+            slots=dict(slots), read_only=set(read_only), signals=list(signals), methods=list(methods), base=base or name
+        )
+
+
+# What is told first of several faults at one place.
+WORSE_FIRST = ("unsupported", "unknown type", "unknown property", "bad id", "duplicate id", "duplicate name")
+WORSE_FIRST += ("wrong literal", "read only")
+
+
+class Judge:
+    """The first fault of the main document's unit, or the first place that does not run."""
+
+    def __init__(self, main):
+        self.main, self.types, self.roots, self.mentions = main, Types(), {}, {}
+
+    def fault(self):
+        """As the program tells it behind its own name, or None."""
+        return self.load() or self.cycle() or self.compile_all() or self.unrun()
+
+    def load(self):
+        """Reads all documents, breadth first; or says why it can't."""
+        listed = [(self.main, f"{self.main}: missing")]
+        for number, (file, missing) in enumerate(listed):
+            if number == 256:
+                return "too many documents"
+            try:
+                with open(file, "rb") as document:
+                    text = document.read()
+            except FileNotFoundError:
+                return missing
+            if len(text) > 1 << 20:
+                return f"{file}: too long"
+            said, _ = reference_parser.judge(text)
+            if said != "ok":
+                return f"{file}: {said}" if said.startswith("not UTF-8") else f"{file}:{said}"
+            self.roots[file] = Reader(file).document()
+            self.mentions[file] = []
+            for name, (line, column) in self.named(self.roots[file]):
+                other = f"{name}.qml"
+                if name not in self.types.built_in and other not in self.mentions[file]:
+                    self.mentions[file].append(other)
+                    if other not in [listed_file for listed_file, _ in listed]:
+                        listed.append((other, f"{file}:{line}:{column}: unknown type"))
+        return None
+
+    def named(self, item):
+        """The types that an object and what stands in it name, with their places, in the order of the text."""
+        found = [(item["type"], item["at"])]
+        for entry in item["told"]:
+            if entry[0] == "child" or (entry[0] == "init" and entry[4]):
+                found += self.named(entry[2] if entry[0] == "child" else entry[4])
+            elif entry[0] in ("property", "signal"):
+                kinds = [entry[3]] if entry[0] == "property" else entry[3]
+                found += [kind for kind in kinds if kind[0][0].isupper()]
+        return found
+
+    def cycle(self):
+        for file in self.roots:
+            seen, pending = set(), list(self.mentions[file])
+            while pending:
+                other = pending.pop()
+                if other not in seen:
+                    seen.add(other)
+                    pending += self.mentions[other]
+            if file in seen:
+                return f"{file}: cycle"
+        return None
+
+    def compile_all(self):
+        """Judges each document behind those that it mentions."""
+        done = set()
+
+        def judged(file):
+            for other in self.mentions[file]:
+                if other not in done and (found := judged(other)):
+                    return found
+            done.add(file)
+            return self.compile(file)
+
+        return judged(self.main)
+
+    def compile(self, file):
+        faults = []
+        tell = lambda at, what: faults.append((at, WORSE_FIRST.index(what)))
+        root = self.roots[file]
+        self.component(root, tell)
+        if faults:
+            (line, column), what = min(faults)
+            return f"{file}:{line}:{column}: {WORSE_FIRST[what]}"
+        whole = self.with_declared(root)
+        self.types.known[file.removesuffix(".qml")] = whole
+        return None
+
+    def with_declared(self, item):
+        """What an object has, with what it declares. A property of a kind that there is not takes all."""
+        base = self.types.known[item["type"]]
+        whole = {key: value.copy() for key, value in base.items() if key != "base"} | {"base": base["base"]}
+        for what, _, name, *rest in item["told"]:
+            if what == "property" and name not in whole["slots"]:
+                is_kind = rest[0][0] in Types.BASIC or rest[0][0] in self.types.known
+                whole["slots"][name] = KNOWN_KINDS.get(rest[0][0], rest[0][0]) if is_kind else "var"
+                if rest[1]:
+                    whole["read_only"].add(name)
+            elif what in ("signal", "method"):
+                whole[what + "s"].append(name)
+        return whole
+
+    def component(self, item, tell):
+        """Judges the objects of a component, which has ids of its own."""
+        self.object(item, tell, set())
+
+    def object(self, item, tell, ids):
+        base = self.types.known[item["type"]]
+        whole = self.with_declared(item)
+        names = {name.partition(".")[0] for name in base["slots"]} | set(base["signals"]) | set(base["methods"])
+        given, own_ids, children = set(), 0, 0
+        is_component = base["base"] == "Component"
+        for what, at, *rest in item["told"]:
+            if what == "id":
+                self.id(rest[0], at, own_ids, tell, ids)
+                own_ids += 1
+            elif what in ("property", "signal", "method"):
+                if rest[0] in names:
+                    tell(at, "duplicate name")
+                names.add(rest[0])
+                self.declaration(what, rest, tell)
+            elif what == "init":
+                self.init(item, whole, rest, at, given, tell, ids)
+            elif what == "handler" and not self.is_handled(rest[0], whole):
+                tell(at, "unknown property")
+            elif what == "child":
+                children += 1
+                if is_component and (children > 1 or item["type"] != "Component"):
+                    tell(at, "duplicate name")
+                self.component(rest[0], tell) if is_component else self.object(rest[0], tell, ids)
+        if item["type"] == "Component" and children == 0:
+            tell(item["at"], "unknown property")
+
+    @staticmethod
+    def id(name, at, own_ids, tell, ids):
+        if name[0].isupper():
+            tell(at, "bad id")
+        if name in ids or own_ids > 0:
+            tell(at, "duplicate id")
+        ids.add(name)
+
+    def declaration(self, what, rest, tell):
+        """The kinds and the names of parameters."""
+        for kind, at in [rest[1]] if what == "property" else rest[1]:
+            if kind not in Types.BASIC and kind not in self.types.known:
+                tell(at, "unknown type")
+        seen = set()
+        for name, at in [] if what == "property" else rest[2]:
+            if name in seen:
+                tell(at, "duplicate name")
+            seen.add(name)
+
+    def init(self, item, whole, rest, at, given, tell, ids):
+        path, literal, value = rest
+        kind = whole["slots"].get(path)
+        is_declared = any(entry[0] == "property" and entry[1] == at for entry in item["told"])
+        if kind is None:
+            tell(at, "unknown property")
+        elif path in whole["read_only"] and not is_declared:
+            tell(at, "read only")
+        if path in given:
+            tell(at, "duplicate name")
+        given.add(path)
+        if literal and kind and not self.is_taken(kind, literal[0]):
+            tell(literal[1], "wrong literal")
+        if value:
+            if kind in ("int", "bool", "string", "color", "line"):
+                tell(value["at"], "wrong literal")
+            is_wrapped = kind == "Component" and self.types.known[value["type"]]["base"] != "Component"
+            self.component(value, tell) if is_wrapped else self.object(value, tell, ids)
+
+    @staticmethod
+    def is_taken(kind, literal):
+        if kind in ("int", "bool", "string", "color", "var"):
+            takes = {"int": (int,), "bool": (bool,), "string": (str, int, bool), "color": (str,)}
+            return kind == "var" or type(literal) in takes[kind]
+        if kind == "Component":
+            return literal is None
+        if kind == "line":
+            return literal is UNDEFINED
+        return literal is None or literal is UNDEFINED
+
+    @staticmethod
+    def is_handled(path, whole):
+        first, _, second = path.partition(".")
+        if second:
+            return first == "Component" and second in ("onCompleted", "onDestruction")
+        names = {first[2:], first[2].lower() + first[3:]}
+        changes = {name + "Changed" for name in whole["slots"] if "." not in name}
+        return bool(names & (set(whole["signals"]) | changes))
+
+    # ---- what does not run yet
+    def unrun(self):
+        for file, root in self.roots.items():
+            places = self.unrun_in(root)
+            if places:
+                line, column = min(places)
+                return f"{file}:{line}:{column}: unsupported"
+        return None
+
+    def unrun_in(self, item):
+        """The places of an object and what stands in it that do not run yet."""
+        base = self.types.known[item["type"]]["base"]
+        places = [] if item["type"] not in self.types.built_in or base in SLOTS else [item["at"]]
+        for what, at, *rest in item["told"]:
+            if what == "child":
+                places += self.unrun_in(rest[0])
+            elif what == "init":
+                path, literal, value = rest
+                is_built_in = path in SLOTS.get(base, {})
+                if value:
+                    places += ([value["at"]] if is_built_in else []) + self.unrun_in(value)
+                elif is_built_in and (path not in RUN or self.is_unrun_color(path, literal)):
+                    places.append(at)
+        return places
+
+    @staticmethod
+    def is_unrun_color(path, literal):
+        if path != "color" or not literal or not isinstance(literal[0], str):
+            return False
+        color = color_of(literal[0])
+        return color is None or color >> 24 != 255
 
 
 class Unit:
@@ -1018,6 +1291,11 @@ def paint(pixels, node, left, top, window):
 
 
 def main():
+    fault = Judge(sys.argv[1]).fault()
+    sys.setrecursionlimit(1_000_000)
+    if fault:
+        sys.stderr.write(f"qmlstage: {fault}\n")
+        return 4
     unit = Unit(sys.argv[1])
     with open(sys.argv[2], encoding="utf-8") as file:
         lines = file.read().split("\n")
@@ -1035,17 +1313,17 @@ def main():
     image = b"P6\n%d %d\n255\n" % (WIDTH, HEIGHT) + bytes(pixels)
     for _ in lines:
         sys.stdout.buffer.write(image)
+    return 0
 
 
 def with_room(run):
-    """Runs it where calls may nest deep, and exits with 1 where it ends with an error."""
+    """Runs it where calls may nest deep, and exits with what it gives, or with 1 where it ends with an error."""
     ended = []
-    sys.setrecursionlimit(1_000_000)
     threading.stack_size(1 << 29)
     thread = threading.Thread(target=lambda: ended.append(run()))
     thread.start()
     thread.join()
-    sys.exit(0 if ended else 1)
+    sys.exit(ended[0] if ended else 1)
 
 
 if __name__ == "__main__":
