@@ -62,7 +62,7 @@ Rectangle {
 
     Component.onCompleted: {
         checkAll()
-        for (let wanted = 500; wanted > 200; wanted -= 250) {
+        for (var wanted = 500; wanted > 200; wanted -= 250) {
             width = wanted
             checkAll()
         }
