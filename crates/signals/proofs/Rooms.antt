@@ -38,7 +38,7 @@ module _ (room : ℕ) (job : Job) (w : World) (some : room ≡ 0 → ⊥) (local
       w3 ≡ with_fault_note job.site fault w2 → handle room job w ≡ ended w3
   ran_fault fault stop w2 w3 l2 is ran noted =
       let ends : body_done (handle (room - 1)) job.site job.body w locals ≡ stopped (Fault fault) w2 l2 =
-          subst (λ s. Leaves (body_done (handle (room - 1)) job.site job.body w locals) (Err s) w2 l2) is ran in
+      subst (λ s. Leaves (body_done (handle (room - 1)) job.site job.body w locals) (Err s) w2 l2) is ran in
       with_copy ∙ (ap (ended_as job.site) ends ∙ ap ended (sym noted))
 
   pub ran_halted : (halt : Halt) (stop : Stop) (w2 : World) (l2 : List NamedLocal) → stop ≡ Halted halt → Leaves (body_done (handle (room - 1)) job.site job.body w locals) (Err stop) w2 l2 →

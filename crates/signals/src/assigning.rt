@@ -51,7 +51,12 @@ fn compound(alloc: Global, op: AssignOp, old: &Value, right: Value) -> Result<Va
 }
 
 impl World {
-    fn right_value(&self, right: Right<'_>, at: &Setting<'_>, locals: &Locals) -> Result<Value, Stop>
+    fn right_value(
+        &self,
+        right: Right<'_>,
+        at: &Setting<'_>,
+        locals: &Locals,
+    ) -> Result<Value, Stop>
         ensures { Gives (right_in at.now.site.now.frame self.now.objects locals.now right.entry) result }
     {
         match right {

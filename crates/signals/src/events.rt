@@ -51,11 +51,7 @@ fn event_at(objects: &Objects, place: Place) -> Option<Event>
 }
 
 // Adds what a place tells that shows another value.
-fn add_event(
-    objects: &Objects,
-    place: &Place,
-    events: &mut Items<Event>,
-) -> Result<(), AllocError>
+fn add_event(objects: &Objects, place: &Place, events: &mut Items<Event>) -> Result<(), AllocError>
     ensures { OnOk result (events.new ≡ events.old ++ event_at objects.now place.now) }
 {
     match event_at(objects, *place) {

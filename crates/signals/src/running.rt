@@ -77,12 +77,7 @@ impl World {
     // Runs a statement.
     #[cycle(running)]
     #[tactic(auto, using(crate::proofs::Following::stops_followed, crate::proofs::Following::stops_going, crate::proofs::Following::stops_value), unfolding(crate::specs::Running::exec))]
-    fn exec(
-        &mut self,
-        stmt: &Stmt,
-        at: &Setting<'_>,
-        locals: &mut Locals,
-    ) -> Result<Flow, Stop>
+    fn exec(&mut self, stmt: &Stmt, at: &Setting<'_>, locals: &mut Locals) -> Result<Flow, Stop>
         ensures runs { Leaves (exec (handle at.now.room) at.now.site.now stmt.now self.old locals.old) result self.new locals.new }
         ensures left { self.new.left ≤ self.old.left }
         ensures spends { OnOk result (self.new.left < self.old.left) }
@@ -102,9 +97,7 @@ impl World {
             Stmt::If(condition, first, otherwise) => {
                 self.choose(condition, first, otherwise.as_ref(), at, locals)
             }
-            Stmt::While(condition, body) => {
-                self.turns(Some(condition), body, None, at, locals)
-            }
+            Stmt::While(condition, body) => { self.turns(Some(condition), body, None, at, locals) }
             Stmt::For(first, condition, step, body) => self.count_through(
                 first.as_ref(),
                 condition.as_ref(),
@@ -284,12 +277,7 @@ impl World {
     // Runs an expression that stands as a statement.
     #[cycle(running)]
     #[tactic(auto, using(crate::proofs::Following::stops_value))]
-    fn perform(
-        &mut self,
-        e: &Expr,
-        at: &Setting<'_>,
-        locals: &mut Locals,
-    ) -> Result<Flow, Stop>
+    fn perform(&mut self, e: &Expr, at: &Setting<'_>, locals: &mut Locals) -> Result<Flow, Stop>
         ensures runs { Leaves (done_step (handle at.now.room) at.now.site.now e.now (out-Expr e.now) self.old locals.old) result self.new locals.new }
         ensures left { self.new.left ≤ self.old.left }
     {
@@ -376,13 +364,7 @@ impl World {
     // Runs a timer's method.
     #[cycle(running)]
     #[tactic(auto, unfolding(crate::specs::Running::timer_called))]
-    fn call_timer(
-        &mut self,
-        alloc: Global,
-        of: u64,
-        method: u32,
-        room: u32,
-    ) -> Result<(), Halt>
+    fn call_timer(&mut self, alloc: Global, of: u64, method: u32, room: u32) -> Result<(), Halt>
         ensures runs { Ends (timer_called (handle room) of method self.old) result self.new }
         ensures left { self.new.left ≤ self.old.left }
     {
@@ -449,12 +431,7 @@ impl World {
     }
 
     #[cycle(running)]
-    fn run_body(
-        &mut self,
-        body: &Body,
-        at: &Setting<'_>,
-        locals: &mut Locals,
-    ) -> Result<Flow, Stop>
+    fn run_body(&mut self, body: &Body, at: &Setting<'_>, locals: &mut Locals) -> Result<Flow, Stop>
         ensures runs { Leaves (body_done (handle at.now.room) at.now.site.now body.now self.old locals.old) result self.new locals.new }
         ensures left { self.new.left ≤ self.old.left }
     {
@@ -545,13 +522,7 @@ impl World {
     // Writes a value, settles, and runs the handlers of what has changed.
     #[cycle(running)]
     #[tactic(auto, unfolding(crate::specs::Running::write, crate::specs::Running::reacted))]
-    fn write_at(
-        &mut self,
-        alloc: Global,
-        place: Place,
-        value: Value,
-        room: u32,
-    ) -> Result<(), Halt>
+    fn write_at(&mut self, alloc: Global, place: Place, value: Value, room: u32) -> Result<(), Halt>
         ensures runs { Ends (write (handle room) place value self.old) result self.new }
         ensures left { self.new.left ≤ self.old.left }
     {

@@ -21,12 +21,7 @@ pub(crate) struct Setting<'a> {
 
 impl World {
     /// The value of an expression.
-    pub(crate) fn value(
-        &self,
-        e: &Expr,
-        at: &Setting<'_>,
-        locals: &Locals,
-    ) -> Result<Value, Stop>
+    pub(crate) fn value(&self, e: &Expr, at: &Setting<'_>, locals: &Locals) -> Result<Value, Stop>
         ensures { Gives (value_in at.now.site.now.frame self.now.objects locals.now e.now) result }
     {
         let reader = Settled {
@@ -56,12 +51,7 @@ impl World {
     }
 
     /// Whether an expression's value is true.
-    pub(crate) fn holds(
-        &self,
-        e: &Expr,
-        at: &Setting<'_>,
-        locals: &Locals,
-    ) -> Result<bool, Stop>
+    pub(crate) fn holds(&self, e: &Expr, at: &Setting<'_>, locals: &Locals) -> Result<bool, Stop>
         ensures { Gives (holds_in at.now.site.now.frame self.now.objects locals.now e.now) result }
     {
         match self.value(e, at, locals) {

@@ -103,21 +103,24 @@ ended-stopped (Err s) run image told count unit few took e says noted stopped = 
 pub ended-untold : (run : Run) (s : Status) (told : List ℕ) (count : ℕ) (unit : UnitOf) → count ≤ 100000 → Accepts run.held run.words count unit → told ≡ notes_of unit → run.journal ≡ [] →
     Keeps run.frames_before run.frames_after → AppendsPart run.notes_before run.notes_after told → Rose run.notings_before run.notings_after → s ≡ status.WriteFault → Ends run s
 ended-untold run s told count unit few took says none kept noted rose is =
-    subst (Ends run) (sym is) (inr rose, (
-      count,
-      0,
-      unit,
-      record {
-        few = few;
-        within = omega arith;
-        accepted = took;
-        settled = start_holds unit.components;
-        moves = none;
-        bytes = AppendsPart-kept run.frames_before run.frames_after (written unit run.journal) kept;
-        notes = subst (AppendsPart run.notes_before run.notes_after) says noted;
-        noted_first = λ some. absurd (some refl);
-      },
-    ))
+    subst (Ends run) (sym is) (
+      inr rose,
+      (
+        count,
+        0,
+        unit,
+        record {
+          few = few;
+          within = omega arith;
+          accepted = took;
+          settled = start_holds unit.components;
+          moves = none;
+          bytes = AppendsPart-kept run.frames_before run.frames_after (written unit run.journal) kept;
+          notes = subst (AppendsPart run.notes_before run.notes_after) says noted;
+          noted_first = λ some. absurd (some refl);
+        },
+      ),
+    )
 
 -- a lawful script, and beside it what the document's file has
 beside : (held : Option Store) (words : List (List ℕ)) (count : ℕ) (fault : LoadFault) → IfSome held (λ files. HasScript (get files (script_of words)) count) → IfSome held (λ files. HasFault files (main_of words) fault)

@@ -1,8 +1,7 @@
 -- What is shown and told of a unit, by its first document.
 use Rattle.std.proofs.Common.{◌≡◌, ◌∙◌, ◌≤◌, pos, List, [], ◌∷◌, length, get_or, ap, arith}
-use Rattle.std.specs.Prelude.{Option, Some}
+use Rattle.std.specs.Prelude.{Some}
 use Rattle.qml_types.specs.declared.component.ComponentType.{ComponentType}
-use Rattle.signals.specs.declared.world.World.{World}
 use Rattle.stage_run.specs.Shown.{started_first}
 use Rattle.stage_run.specs.Started.{started}
 

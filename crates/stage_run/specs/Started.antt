@@ -1,5 +1,5 @@
 -- The world with which a run starts.
-use Rattle.std.specs.Prelude.{ℕ, ℤ, Option, None, Some, option_map, List, [], fold}
+use Rattle.std.specs.Prelude.{ℕ, ℤ, Option, None, Some, option_map, [], fold}
 use Rattle.std.specs.Map.{keys_of}
 use Rattle.qml_ast.specs.declared.span.Span.{Span}
 use Rattle.qml_ast.specs.declared.place.Place.{Place}

@@ -61,11 +61,7 @@ fn opening_of(alloc: Global, unit: &Unit) -> Result<Opening, AllocError>
 
 /// What the start of the document of this name shows and tells, or why there is none, which is why its unit
 /// isn't loaded.
-pub fn main_opening<F: Files>(
-    alloc: Global,
-    files: &mut F,
-    name: &str,
-) -> Result<Opening, Status>
+pub fn main_opening<F: Files>(alloc: Global, files: &mut F, name: &str) -> Result<Opening, Status>
     requires { length name.now ≤ 65536 }
     ensures held { F.held files.new ≡ F.held files.old }
     ensures later { F.faults files.old ≤ F.faults files.new }

@@ -57,7 +57,14 @@ pub fn run<F: Files, S: Sink, N: Sink>(
     let mut frames = frames;
     let mut notes = notes;
     let mut journal = Journal::new(alloc);
-    let status = play(alloc, words, &mut files, &mut frames, &mut notes, &mut journal);
+    let status = play(
+        alloc,
+        words,
+        &mut files,
+        &mut frames,
+        &mut notes,
+        &mut journal,
+    );
     Outcome {
         status,
         files,

@@ -1,6 +1,6 @@
 use Rattle.std.proofs.Common.{◌∙◌, ap, w32}
 use Rattle.std.proofs.lemmas.Int.{to_z-of_z}
-use Rattle.qml_ast.specs.declared.place.Side.TheVariants.{Set, Shown}
+use Rattle.qml_ast.specs.declared.place.Side.TheVariants.{Shown}
 use Rattle.qml_ast.specs.declared.value.Value.TheVariants.{Int}
 use Rattle.object_tree.specs.Writing.{kept, written}
 use Rattle.stage_run.specs.Started.{content_place}

@@ -60,6 +60,8 @@ pub turns-loop-self-init : goal.turns-loop-self-init
 turns-loop-self-init t c = (begins _ _ _ _ _, omega arith)
 
 pub turns-loop-self-preserved : goal.turns-loop-self-preserved
-turns-loop-self-preserved t c =
-    (turn_goes _ _ _ c.loop-self.self c.loop-self.locals _ c.in_ok-condition.field-0 c.turn.new.self c.turn.new.locals c.loop-self.invariant.0 c.in_ok-condition.ensures c.if-branch.true
-    (c.in_ok-turn.ensures.runs ∙ ap (λ flow. (Ok flow, (c.turn.new.self, c.turn.new.locals))) c.in-Going.is) c.in_ok-turn.ensures.spends, omega (arith, c.loop-self.invariant.1, c.in_ok-turn.ensures.left))
+turns-loop-self-preserved t c = (
+  turn_goes _ _ _ c.loop-self.self c.loop-self.locals _ c.in_ok-condition.field-0 c.turn.new.self c.turn.new.locals c.loop-self.invariant.0 c.in_ok-condition.ensures c.if-branch.true
+      (c.in_ok-turn.ensures.runs ∙ ap (λ flow. (Ok flow, (c.turn.new.self, c.turn.new.locals))) c.in-Going.is) c.in_ok-turn.ensures.spends,
+  omega (arith, c.loop-self.invariant.1, c.in_ok-turn.ensures.left),
+)
