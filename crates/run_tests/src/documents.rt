@@ -23,7 +23,7 @@ const REFUSED: [(&str, &str); 14] = [
 ];
 
 /// A member in the second line of a Rectangle, and what is told behind that line's number.
-const MEMBERS: [(&str, &str); 47] = [
+const MEMBERS: [(&str, &str); 43] = [
     ("z: 1", "1: unsupported"),
     ("X: 1", "1: unknown property"),
     ("x: true", "4: wrong literal"),
@@ -56,12 +56,8 @@ const MEMBERS: [(&str, &str); 47] = [
     ("property string a: null", "20: wrong literal"),
     ("property alias a: b", "10: unsupported"),
     ("property Foo a", "10: unknown type"),
-    ("signal s", "8: unsupported"),
     ("signal s(Foo a)", "10: unknown type"),
     ("onS: ;", "1: unknown property"),
-    ("onXChanged: ;", "1: unsupported"),
-    ("Component.onCompleted: ;", "1: unsupported"),
-    ("function f() { }", "10: unsupported"),
     ("function f(a, a) { }", "15: duplicate name"),
     ("id: A", "5: bad id"),
     ("id: a; id: b", "12: duplicate id"),

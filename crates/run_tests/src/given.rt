@@ -27,9 +27,19 @@ pub struct Ending<'a> {
     pub bytes: usize,
 }
 
+/// The outcome of a run whose notes have as much room as they need.
 pub fn outcome_of(
     alloc: Global,
     given: &Given<'_>,
+) -> Result<Outcome<MemFiles, MemSink, MemSink>, AllocError> {
+    outcome_within(alloc, given, 4096)
+}
+
+/// The outcome of a run whose notes have room for so many bytes.
+pub fn outcome_within(
+    alloc: Global,
+    given: &Given<'_>,
+    notes_room: usize,
 ) -> Result<Outcome<MemFiles, MemSink, MemSink>, AllocError> {
     let mut files = MemFiles::new(alloc);
     for (name, text) in given.files {
@@ -43,7 +53,7 @@ pub fn outcome_of(
         words.push(alloc, word)?;
     }
     let frames = MemSink::new(alloc, 7, given.room)?;
-    let notes = MemSink::new(alloc, 7, 0)?;
+    let notes = MemSink::new(alloc, 7, notes_room)?;
     Ok(run(alloc, &words, files, frames, notes))
 }
 
