@@ -1,0 +1,15 @@
+//! Tests of handlers: what documents note once they are started, and what signals and writes make of them.
+#![tactic(auto)]
+
+#[cfg(test)]
+mod changes;
+#[cfg(test)]
+mod faults;
+#[cfg(test)]
+mod limits;
+#[cfg(test)]
+mod logs;
+#[cfg(test)]
+mod statements;
+#[cfg(test)]
+mod worlds;
