@@ -6,7 +6,8 @@ use Rattle.binding_engine.proofs.Holding.{equations_hold}
 use Rattle.binding_engine.specs.Holding.{EquationsHold}
 use Rattle.binding_engine.specs.Settling.{after_settle, resumed_by}
 use Rattle.object_tree.specs.Store.{Store}
-use Rattle.signals.specs.Calls.{react_ran, write_ran, emit_ran, complete_ran}
+use Rattle.signals.specs.Calls.{react_ran, write_ran, emit_ran, complete_ran, exec_ran}
+use Rattle.signals.specs.declared.world.HandlerRef.{HandlerRef}
 use Rattle.signals.specs.declared.world.World.{World}
 use Rattle.handler_laws.proofs.Kept as kept
 
@@ -24,3 +25,6 @@ emits = kept.emits EquationsHold settle_holds
 
 pub completes : (of : ℕ) (w : World) → EquationsHold w.objects → EquationsHold ((complete_ran of w).1).objects
 completes = kept.completes EquationsHold settle_holds
+
+pub executes : (h : HandlerRef) (args : List Value) (w : World) → EquationsHold w.objects → EquationsHold ((exec_ran h args w).1).objects
+executes = kept.executes EquationsHold settle_holds

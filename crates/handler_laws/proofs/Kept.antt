@@ -1,8 +1,7 @@
 -- What each settle gives a store is kept by whatever runs: only writes change the objects, and each is settled.
-use Rattle.std.proofs.Common.{◌≡◌, ℕ, zero, suc, ◌+◌, nat_eq, Bool, true, false, List, [], ◌∷◌, ◌++◌, map, Option, None, Some, refl, sym, ap, subst}
-use Rattle.std.specs.Prelude.{Result, Ok, Err, if◌then◌else◌, option_map}
+use Rattle.std.proofs.Common.{ℕ, zero, suc, nat_eq, Bool, true, false, List, [], ◌∷◌, map, Option, None, Some, sym, subst}
+use Rattle.std.specs.Prelude.{Result, Ok, Err, if◌then◌else◌}
 use Rattle.qml_ast.specs.declared.eval_fault.EvalFault.{EvalFault}
-use Rattle.qml_ast.specs.declared.eval_fault.EvalFault.TheVariants.{WrongKind}
 use Rattle.qml_ast.specs.declared.expr.Expr.{Expr, out-Expr}
 use Rattle.qml_ast.specs.declared.expr.Expr.TheOpen.{Expr-F}
 use Rattle.qml_ast.specs.declared.path.Path.{Path}
@@ -19,26 +18,25 @@ use Rattle.expr_eval.specs.declared.answer.Called.{Called}
 use Rattle.expr_eval.specs.declared.answer.Called.TheVariants as call
 use Rattle.expr_eval.specs.declared.found.Frame.{Frame}
 use Rattle.expr_eval.specs.declared.locals.NamedLocal.{NamedLocal}
-use Rattle.object_tree.specs.Handlers.{Method, handlers_at, signal_name_at, signal_params_at, method_at}
+use Rattle.object_tree.specs.Handlers.{Method, handler_at, handlers_at, signal_name_at, signal_params_at, method_at}
 use Rattle.object_tree.specs.Origins.{path_at}
 use Rattle.object_tree.specs.Settled.{meanings, arities}
 use Rattle.object_tree.specs.Store.{Store}
 use Rattle.signals.specs.Assigning.{local_target, held_value, combined, assignment}
-use Rattle.signals.specs.Calls.{top, ran_of, unless_dropped, react_ran, write_ran, emit_ran, complete_ran}
+use Rattle.signals.specs.Calls.{top, ran_of, unless_dropped, react_ran, write_ran, emit_ran, complete_ran, run_job, exec_ran}
 use Rattle.signals.specs.Endings.{Ending, Handle, Flowing, Doing, after, each, on, followed, going, with_value}
-use Rattle.signals.specs.Jobs.{jobs_where, handles_signal, handles_completion, signal_locals, taken_arguments, method_job}
+use Rattle.signals.specs.Jobs.{handler_job, jobs_where, handles_signal, handles_completion, signal_locals, taken_arguments, method_job}
 use Rattle.signals.specs.Noting.{changes_of, settled_by, with_written}
-use Rattle.signals.specs.Running.{handled, emitted, emitted_as, told_change, change_told, reacted, write, running_place, is_shown_true, written_to, run_timer, restarted, timer_called, method_called, call_done, done_step, local_assigned, to_local, assigned_by, assigned_to, part, in_order, chosen, turns, looped, turn_of, visit, step, exec, begun, ended_as, body_done, handle}
+use Rattle.signals.specs.Running.{handled, emitted, emitted_as, told_change, change_told, reacted, write, running_place, is_shown_true, written_to, run_timer, timer_called, method_called, call_done, done_step, local_assigned, assigned_by, assigned_to, in_order, turns, looped, turn_of, visit, step, exec, begun, ended_as, body_done, handle}
 use Rattle.signals.specs.Values.{value_in, value_or_undefined, holds_in, condition_in, logged_text}
 use Rattle.signals.specs.declared.ending.Flow.TheVariants.{Going, Returned}
-use Rattle.signals.specs.declared.ending.Halt.TheVariants.{Budget, TooDeep}
 use Rattle.signals.specs.declared.ending.Stop.TheVariants.{Fault, Halted}
 use Rattle.signals.specs.declared.job.Body.{Body}
 use Rattle.signals.specs.declared.job.Body.TheVariants as body
 use Rattle.signals.specs.declared.job.Job.{Job}
 use Rattle.signals.specs.declared.job.Site.{Site}
-use Rattle.signals.specs.declared.ending.Ran.{Ran}
 use Rattle.signals.specs.declared.ending.Ran.TheVariants as ran
+use Rattle.signals.specs.declared.world.HandlerRef.{HandlerRef}
 use Rattle.signals.specs.declared.world.World.{World}
 
 module _ (P : Store → Type 0) (settles : (writes : List Place) (store : Store) → P (after_settle writes store)) where
@@ -273,3 +271,13 @@ module _ (P : Store → Type 0) (settles : (writes : List Place) (store : Store)
   pub completes : (of : ℕ) (w : World) → P w.objects → P ((complete_ran of w).1).objects
   unfolding complete_ran
   completes of w p = unless_keeps (handled top of handles_completion []) w p (handled_keeps top (handle_keeps 64) of handles_completion [] w p)
+
+  job_stays : (job : Option Job) (w : World) → P w.objects → Stays (run_job job w)
+  job_stays None w p = p
+  job_stays (Some job) w p = handle_keeps 64 job w p
+
+  pub executes : (h : HandlerRef) (args : List Value) (w : World) → P w.objects → P ((exec_ran h args w).1).objects
+  unfolding exec_ran
+  executes h args w p =
+      let job = handler_job h.serial args w.objects (handler_at h.serial h.index w.objects) in
+      unless_keeps (run_job job) w p (job_stays job w p)

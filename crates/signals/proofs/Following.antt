@@ -1,12 +1,11 @@
 -- What a part that stops gives to what would come after it.
 use Rattle.std.proofs.Common.{◌≡◌, refl, sym}
-use Rattle.std.specs.Prelude.{◌≢◌, List, Result, Ok, Err}
+use Rattle.std.specs.Prelude.{◌≢◌, List, Result, Err}
 use Rattle.qml_ast.specs.declared.eval_fault.EvalFault.{EvalFault}
 use Rattle.qml_ast.specs.declared.eval_fault.EvalFault.TheVariants.{Overflow, ZeroDivisor, WrongKind, UnknownName, NullMember, TooMuch, TextTooLong, ReadOnly, NoMemory as NoMemoryFault}
 use Rattle.expr_eval.specs.declared.locals.NamedLocal.{NamedLocal}
 use Rattle.signals.specs.Assigning.{then_with}
 use Rattle.signals.specs.Endings.{Ending, Flowing, Doing, after, followed, going, with_value, Ends, Leaves, Gives, stop_of}
-use Rattle.signals.specs.declared.ending.Flow.{Flow}
 use Rattle.signals.specs.declared.ending.Halt.{Halt}
 use Rattle.signals.specs.declared.ending.Halt.TheVariants.{Budget, TooDeep, NoMemory}
 use Rattle.signals.specs.declared.ending.Stop.{Stop}

@@ -1,7 +1,6 @@
 -- The turns of a loop, as code makes them.
-use Rattle.std.proofs.Common.{◌≡◌, ◌<◌, ◌∙◌, ℕ, zero, suc, Bool, true, false, List, Option, Some, None, refl, sym, ap, subst, arith}
-use Rattle.std.specs.Prelude.{Result, Ok, Err, if◌then◌else◌}
-use Rattle.qml_ast.specs.declared.eval_fault.EvalFault.{EvalFault}
+use Rattle.std.proofs.Common.{◌≡◌, ◌<◌, ◌∙◌, ℕ, zero, suc, Bool, true, false, List, Option, refl, sym, ap, subst, arith}
+use Rattle.std.specs.Prelude.{Ok, Err, if◌then◌else◌}
 use Rattle.qml_ast.specs.declared.expr.Expr.{Expr}
 use Rattle.expr_eval.specs.declared.found.Frame.{Frame}
 use Rattle.expr_eval.specs.declared.locals.NamedLocal.{NamedLocal}

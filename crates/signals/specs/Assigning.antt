@@ -1,5 +1,5 @@
 -- What assignments give.
-use Rattle.std.specs.Prelude.{ℕ, pos, Bool, if◌then◌else◌, List, is_some, Option, None, Some, Result, Ok, Err}
+use Rattle.std.specs.Prelude.{ℕ, pos, if◌then◌else◌, List, is_some, Option, None, Some, Result, Ok, Err}
 use Rattle.qml_ast.specs.Arithmetic.{sum_of, difference_of, product_of, quotient_of}
 use Rattle.qml_ast.specs.declared.eval_fault.EvalFault.{EvalFault}
 use Rattle.qml_ast.specs.declared.eval_fault.EvalFault.TheVariants.{WrongKind, UnknownName, ReadOnly}

@@ -1,18 +1,21 @@
 -- What the machine does: writes and signals, within a move.
-use Rattle.std.specs.Prelude.{ℕ, Bool, true, false, if◌then◌else◌, List, [], ◌∷◌, Result, Ok, Err}
+use Rattle.std.specs.Prelude.{ℕ, Option, None, Some, true, false, if◌then◌else◌, List, [], ◌∷◌, Ok, Err}
 use Rattle.qml_ast.specs.declared.place.Place.{Place}
 use Rattle.qml_ast.specs.declared.value.Value.{Value}
 use Rattle.binding_engine.specs.declared.engine.Engine.{Engine}
+use Rattle.object_tree.specs.Handlers.{handler_at}
 use Rattle.object_tree.specs.Store.{Store}
 use Rattle.signals.specs.declared.calls.TheConstants.{MOST_STATEMENTS, MOST_HANDLERS}
-use Rattle.signals.specs.Endings.{Ending, Handle, each}
-use Rattle.signals.specs.Jobs.{handles_completion}
+use Rattle.signals.specs.Endings.{Ending, Handle, ended, each}
+use Rattle.signals.specs.Jobs.{handles_completion, handler_job}
 use Rattle.signals.specs.Noting.{changes_of, settled_by, with_written}
 use Rattle.signals.specs.Running.{handle, handled, emitted, change_told}
 use Rattle.signals.specs.declared.ending.Halt.{Halt}
 use Rattle.signals.specs.declared.ending.Halt.TheVariants as halt
 use Rattle.signals.specs.declared.ending.Ran.{Ran}
 use Rattle.signals.specs.declared.ending.Ran.TheVariants as ran
+use Rattle.signals.specs.declared.job.Job.{Job}
+use Rattle.signals.specs.declared.world.HandlerRef.{HandlerRef}
 use Rattle.signals.specs.declared.world.World.{World}
 
 -- a world of these objects, at the beginning of a move
@@ -54,3 +57,11 @@ emit_ran of signal args w = unless_dropped (emitted top of signal args) w
 -- the handlers of an object's completion
 unfoldable pub complete_ran : ℕ → World → Ran × World
 complete_ran of w = unless_dropped (handled top of handles_completion []) w
+
+-- one handler, with the arguments of its signal
+abbrev pub run_job : Option Job → World → Ending
+run_job None w = ended w
+run_job (Some job) w = top job w
+
+unfoldable pub exec_ran : HandlerRef → List Value → World → Ran × World
+exec_ran h args w = unless_dropped (run_job (handler_job h.serial args w.objects (handler_at h.serial h.index w.objects))) w

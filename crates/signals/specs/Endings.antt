@@ -2,7 +2,6 @@
 use Rattle.std.specs.Prelude.{◌≡◌, List, [], ◌∷◌, Result, Ok, Err}
 use Rattle.qml_ast.specs.declared.eval_fault.EvalFault.{EvalFault}
 use Rattle.qml_ast.specs.declared.eval_fault.EvalFault.TheVariants.{NoMemory as NoMemoryFault}
-use Rattle.qml_ast.specs.declared.value.Value.{Value}
 use Rattle.expr_eval.specs.declared.locals.NamedLocal.{NamedLocal}
 use Rattle.signals.specs.declared.ending.Flow.{Flow}
 use Rattle.signals.specs.declared.ending.Flow.TheVariants.{Going, Returned}

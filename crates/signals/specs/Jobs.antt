@@ -1,5 +1,5 @@
 -- What handlers and methods run, and with which locals.
-use Rattle.std.specs.Prelude.{ℕ, Bool, true, false, ◌&&◌, ◌||◌, if◌then◌else◌, is_none, List, [], ◌∷◌, ◌++◌, length, map, filter, take, drop, Option, None, Some, Result, Ok, Err, bytes_eq, codes, slice_get}
+use Rattle.std.specs.Prelude.{ℕ, zero, suc, ◌+◌, Bool, true, false, ◌&&◌, ◌||◌, if◌then◌else◌, is_none, List, [], ◌∷◌, ◌++◌, length, map, filter, take, drop, Option, None, Some, Result, Ok, bytes_eq, codes, slice_get}
 use Rattle.qml_ast.specs.declared.eval_fault.EvalFault.{EvalFault}
 use Rattle.qml_ast.specs.declared.path.Path.{Path}
 use Rattle.qml_ast.specs.declared.value.Value.{Value}
@@ -10,7 +10,9 @@ use Rattle.qml_types.specs.Scope.{begins_upper, with_lower}
 use Rattle.expr_eval.specs.Names.{declared, bound}
 use Rattle.expr_eval.specs.declared.locals.Local.TheVariants.{Plain, Mouse}
 use Rattle.expr_eval.specs.declared.locals.NamedLocal.{NamedLocal}
-use Rattle.object_tree.specs.Handlers.{Handler, Method}
+use Rattle.object_tree.specs.Handlers.{Handler, Method, signal_name_at, signal_params_at}
+use Rattle.object_tree.specs.Reading.{instance_at}
+use Rattle.object_tree.specs.declared.instance.Instance.{Instance}
 use Rattle.object_tree.specs.Store.{Store}
 use Rattle.object_tree.specs.Taking.{taken}
 use Rattle.signals.specs.Assigning.{then_with, taken_or_wrong}
@@ -68,6 +70,34 @@ mouse_locals _ = []
 abbrev pub signal_locals : Option (List (List ℕ × Kind)) → List Value → List NamedLocal
 signal_locals None args = mouse_locals args
 signal_locals (Some params) args = with_params params args []
+
+-- ---- the signal that one handler handles
+-- the first number from this one on that passes the test, of so many
+abbrev pub first_from : (ℕ → Bool) → ℕ → ℕ → Option ℕ
+first_from test at zero = None
+first_from test at (suc left) = if test at then Some at else first_from test (at + 1) left
+
+abbrev pub is_handled_by : Path → Option (List ℕ) → Bool
+is_handled_by path None = false
+is_handled_by path (Some name) = handles_signal name path
+
+abbrev pub signal_count : Option Instance → ℕ
+signal_count None = 0
+signal_count (Some instance) = instance.signals
+
+-- the first signal of the object that a handler of that path handles
+abbrev pub signal_of : ℕ → Path → Store → Option ℕ
+signal_of of path store =
+    first_from (λ number. is_handled_by path (signal_name_at of number store)) 0 (signal_count (instance_at of store))
+
+abbrev pub locals_for : Option ℕ → ℕ → List Value → Store → List NamedLocal
+locals_for None of args store = []
+locals_for (Some signal) of args store = signal_locals (signal_params_at of signal store) args
+
+-- the job of one handler, with the arguments of its signal
+abbrev pub handler_job : ℕ → List Value → Store → Option Handler → Option Job
+handler_job of args store None = None
+handler_job of args store (Some h) = Some (job_of h (locals_for (signal_of of h.path store) of args store))
 
 -- ---- the arguments of a signal
 -- the kind of the parameter of that number; the arguments of built-in signals are numbers

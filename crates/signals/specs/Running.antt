@@ -44,7 +44,6 @@ use Rattle.signals.specs.declared.ending.Halt.TheVariants.{Budget, TooDeep}
 use Rattle.signals.specs.declared.ending.Stop.TheVariants.{Fault, Halted}
 use Rattle.signals.specs.declared.job.Body.{Body}
 use Rattle.signals.specs.declared.job.Body.TheVariants as body
-use Rattle.signals.specs.declared.job.Job.{Job}
 use Rattle.signals.specs.declared.job.Site.{Site}
 use Rattle.signals.specs.declared.world.Event.{Event}
 use Rattle.signals.specs.declared.world.Event.TheVariants.{Restart}

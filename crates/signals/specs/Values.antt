@@ -1,5 +1,5 @@
 -- The values of the expressions in handlers.
-use Rattle.std.specs.Prelude.{ℕ, pos, nat_lt, Bool, true, if◌then◌else◌, List, [], ◌∷◌, ◌++◌, length, map, fold, Option, None, Some, Result, Ok, Err, codes}
+use Rattle.std.specs.Prelude.{ℕ, nat_lt, Bool, true, if◌then◌else◌, List, [], ◌∷◌, ◌++◌, length, map, fold, Option, None, Some, Result, Ok, Err, codes}
 use Rattle.qml_ast.specs.Arithmetic.{truth_of}
 use Rattle.qml_ast.specs.TextForm.{text_of}
 use Rattle.qml_ast.specs.declared.eval_fault.EvalFault.{EvalFault}

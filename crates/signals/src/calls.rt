@@ -1,11 +1,13 @@
 ghost use Rattle.std.specs.Prelude.{◌≡◌, IfOk};
-ghost use Rattle.signals.specs.Calls.{top, fresh_world, moved, ran_of, unless_dropped, react_ran, write_ran, emit_ran, complete_ran};
+ghost use Rattle.signals.specs.Calls.{top, fresh_world, moved, ran_of, unless_dropped, react_ran, write_ran, emit_ran, complete_ran, run_job, exec_ran};
+ghost use Rattle.signals.specs.Jobs.{handler_job};
+ghost use Rattle.object_tree.specs.Handlers.{handler_at};
 ghost use Rattle.signals.specs.Endings.{Ending, Ends, each};
 ghost use Rattle.signals.specs.Running.{change_told};
 
 use crate::ending::{Halt, Ran};
-use crate::jobs::Occasion;
-use crate::world::World;
+use crate::jobs::{Occasion, handler_job};
+use crate::world::{HandlerRef, World};
 use binding_engine::{Engine, Writes};
 use expr_eval::Locals;
 use object_tree::Objects;
@@ -129,6 +131,41 @@ impl World {
         }
         let locals = Locals::new(alloc);
         let outcome = self.handled(alloc, of, &Occasion::Completion, &locals, MOST_HANDLERS);
+        self.ran(outcome)
+    }
+
+    // Runs one handler.
+    fn exec_in(
+        &mut self,
+        alloc: Global,
+        handler: HandlerRef,
+        arguments: &[Value],
+    ) -> Result<(), Halt>
+        ensures { Ends (run_job (handler_job handler.serial arguments.now self.old.objects (handler_at handler.serial handler.index self.old.objects)) self.old) result self.new }
+    {
+        match handler_job(alloc, &self.objects, handler, arguments)? {
+            Some(job) => self.run(alloc, &job, MOST_HANDLERS),
+            None => Ok(()),
+        }
+    }
+
+    /// Runs one handler of an object, with the arguments of the first signal of the object that it handles, if it
+    /// handles one. Nothing runs where there is no such handler, and where a limit was met before in this move.
+    ///
+    /// The only error is that memory ran out. Nothing is then said of the world.
+    #[tactic(auto, unfolding(crate::specs::Calls::exec_ran))]
+    pub fn exec(
+        &mut self,
+        alloc: Global,
+        handler: HandlerRef,
+        arguments: &[Value],
+    ) -> Result<Ran, AllocError>
+        ensures { IfOk result (λ ran. (ran, self.new) ≡ exec_ran handler arguments.now self.old) }
+    {
+        if self.dropped {
+            return Ok(Ran::Ended);
+        }
+        let outcome = self.exec_in(alloc, handler, arguments);
         self.ran(outcome)
     }
 }

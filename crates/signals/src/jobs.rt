@@ -2,14 +2,15 @@ ghost use Rattle.std.specs.Prelude.{◌≡◌, ◌++◌, [], true, codes, bytes_
 ghost use Rattle.signals.specs.Assigning.{taken_or_wrong};
 ghost use Rattle.signals.specs.Endings.{Gives};
 ghost use Rattle.object_tree.specs.Taking.{taken};
-ghost use Rattle.signals.specs.Jobs.{handles_signal, handles_completion, job_of, jobs_where, handled_name, kind_at, with_params, mouse_locals, signal_locals, taken_arguments, method_job, handles};
-ghost use Rattle.object_tree.specs.Handlers.{handler_seen, handlers_at, signal_params_at, signal_name_at, method_at};
+ghost use Rattle.signals.specs.Jobs.{handles_signal, handles_completion, job_of, jobs_where, handled_name, kind_at, with_params, mouse_locals, signal_locals, is_handled_by, signal_count, signal_of, locals_for, handler_job, taken_arguments, method_job, handles};
+ghost use Rattle.object_tree.specs.Handlers.{handler_seen, handlers_at, handler_at, signal_params_at, signal_name_at, method_at};
 ghost use Rattle.object_tree.specs.Origins.{path_at};
+ghost use Rattle.object_tree.specs.Reading.{instance_at};
 ghost use Rattle.qml_types.specs.Scope.{begins_upper, with_lower};
 
 use crate::ending::Stop;
 use crate::job::{Body, Job, Site};
-use crate::world::World;
+use crate::world::HandlerRef;
 use expr_eval::{Local, Locals};
 use object_tree::{Handler, Objects};
 use qml_ast::{Name, Path, Place, Value};
@@ -169,6 +170,70 @@ pub(crate) fn signal_locals(
         Some(params) => with_params(alloc, params, arguments),
         None => mouse_locals(alloc, arguments),
     }
+}
+
+// Whether the object's signal of that number is one that a handler of that path handles.
+fn is_handled_by(objects: &Objects, of: u64, signal: u32, path: &Path) -> bool
+    ensures { result ≡ is_handled_by path.now (signal_name_at of signal objects.now) }
+{
+    match objects.signal_name(of, signal) {
+        Some(name) => handles_signal(name, path),
+        None => false,
+    }
+}
+
+// How many signals an object has.
+fn signal_count(objects: &Objects, of: u64) -> u32
+    ensures { result ≡ signal_count (instance_at of objects.now) }
+{
+    match objects.instance(of) {
+        Some(instance) => instance.signals,
+        None => 0,
+    }
+}
+
+// The first signal of the object that a handler of that path handles.
+fn signal_of(objects: &Objects, of: u64, path: &Path) -> Option<u32>
+    ensures { result ≡ signal_of of path.now objects.now }
+{
+    for signal in 0..signal_count(objects, of) {
+        if is_handled_by(objects, of, signal, path) {
+            return Some(signal);
+        }
+    }
+    None
+}
+
+// The locals of a handler of that path, with the arguments of its signal.
+fn handler_locals(
+    alloc: Global,
+    objects: &Objects,
+    of: u64,
+    path: &Path,
+    arguments: &[Value],
+) -> Result<Locals, AllocError>
+    ensures { IfOk result (λ locals. locals ≡ locals_for (signal_of of path.now objects.now) of arguments.now objects.now) }
+{
+    match signal_of(objects, of, path) {
+        Some(signal) => signal_locals(alloc, objects, of, signal, arguments),
+        None => Ok(Locals::new(alloc)),
+    }
+}
+
+/// The job of an object's handler of that number, with the arguments of its signal.
+pub(crate) fn handler_job(
+    alloc: Global,
+    objects: &Objects,
+    handler: HandlerRef,
+    arguments: &[Value],
+) -> Result<Option<Job>, AllocError>
+    ensures { IfOk result (λ job. job ≡ handler_job handler.serial arguments.now objects.now (handler_at handler.serial handler.index objects.now)) }
+{
+    let Some(found) = objects.handler(handler.serial, handler.index) else {
+        return Ok(None);
+    };
+    let locals = handler_locals(alloc, objects, handler.serial, found.path, arguments)?;
+    Ok(Some(job_of(alloc, &found, &locals)?))
 }
 
 /// The name of an object's signal of that number.

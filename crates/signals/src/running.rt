@@ -77,7 +77,12 @@ impl World {
     // Runs a statement.
     #[cycle(running)]
     #[tactic(auto, using(crate::proofs::Following::stops_followed, crate::proofs::Following::stops_going, crate::proofs::Following::stops_value), unfolding(crate::specs::Running::exec))]
-    fn exec(&mut self, stmt: &Stmt, at: &Setting<'_>, locals: &mut Locals) -> Result<Flow, Stop>
+    fn statement(
+        &mut self,
+        stmt: &Stmt,
+        at: &Setting<'_>,
+        locals: &mut Locals,
+    ) -> Result<Flow, Stop>
         ensures runs { Leaves (exec (handle at.now.room) at.now.site.now stmt.now self.old locals.old) result self.new locals.new }
         ensures left { self.new.left ≤ self.old.left }
         ensures spends { OnOk result (self.new.left < self.old.left) }
@@ -126,7 +131,7 @@ impl World {
         ensures left { self.new.left ≤ self.old.left }
     {
         for stmt in stmts {
-            match self.exec(stmt, at, locals)? {
+            match self.statement(stmt, at, locals)? {
                 Flow::Going => {}
                 Flow::Returned => return Ok(Flow::Returned),
             }
@@ -146,7 +151,7 @@ impl World {
         ensures left { self.new.left ≤ self.old.left }
     {
         match stmt {
-            Some(stmt) => self.exec(stmt.get(), at, locals),
+            Some(stmt) => self.statement(stmt.get(), at, locals),
             None => Ok(Flow::Going),
         }
     }
@@ -166,7 +171,7 @@ impl World {
         ensures left { self.new.left ≤ self.old.left }
     {
         if self.holds(condition, at, locals)? {
-            self.exec(first.get(), at, locals)
+            self.statement(first.get(), at, locals)
         } else {
             self.part(otherwise, at, locals)
         }
@@ -230,7 +235,7 @@ impl World {
         ensures left { self.new.left ≤ self.old.left }
         ensures spends { OnOk result (self.new.left < self.old.left) }
     {
-        match self.exec(body.get(), at, locals)? {
+        match self.statement(body.get(), at, locals)? {
             Flow::Going => self.part(step, at, locals),
             Flow::Returned => Ok(Flow::Returned),
         }
@@ -406,10 +411,10 @@ impl World {
         }
     }
 
-    // Runs a handler or a method. A fault ends it alone.
+    /// Runs a handler or a method. A fault ends it alone.
     #[cycle(running)]
     #[tactic(auto, unfolding(crate::specs::Running::handle))]
-    fn run(&mut self, alloc: Global, job: &Job, room: u32) -> Result<(), Halt>
+    pub(crate) fn run(&mut self, alloc: Global, job: &Job, room: u32) -> Result<(), Halt>
         ensures runs { Ends (handle room job.now self.old) result self.new }
         ensures left { self.new.left ≤ self.old.left }
     {
@@ -436,7 +441,7 @@ impl World {
         ensures left { self.new.left ≤ self.old.left }
     {
         match body {
-            Body::Handler(stmt) => self.exec(stmt.get().get(), at, locals),
+            Body::Handler(stmt) => self.statement(stmt.get().get(), at, locals),
             Body::Method(stmts) => self.in_order(stmts.get().as_slice(), at, locals),
         }
     }

@@ -6,7 +6,7 @@ use Rattle.signals.specs.Running.{exec, handle, change_told}
 use Rattle.signals.proofs.Rooms.{ran_ok, ran_fault, ran_halted}
 use Rattle.std.proofs.lemmas.Result.{err_from_is_err_and}
 use Rattle.signals.proofs.Each.{each_next, each_stops}
-use Rattle.signals.proofs.Turns.{begins, test_stops, test_fails, turn_stops, turn_returns, turn_goes}
+use Rattle.signals.proofs.Turns.{begins, turn_goes}
 use Rattle.signals.proofs.world.World.+running.Goals as goal
 
 pub call-returns-in-Log-clause-runs : goal.call-returns-in-Log-clause-runs
@@ -18,13 +18,13 @@ call-returns-in-Signal-clause-runs t c = rw (← c.in_ok-called.ensures, c.in-Si
 pub call-returns-in-Method-clause-runs : goal.call-returns-in-Method-clause-runs
 call-returns-in-Method-clause-runs t c = rw (← c.in_ok-called.ensures, c.in-Method.is, ← c.as_slice-in-Method.ensures) (c.call_method.ensures.runs c.args.locals.now)
 
-pub exec-returns-in-Assign-clause-runs : goal.exec-returns-in-Assign-clause-runs
-exec-returns-in-Assign-clause-runs t c =
+pub statement-returns-in-Assign-clause-runs : goal.statement-returns-in-Assign-clause-runs
+statement-returns-in-Assign-clause-runs t c =
     subst (λ s. Leaves (exec (handle c.args.at.now.room) c.args.at.now.site.now s c.args.self.now c.args.locals.now) c.assign.result c.assign.new.self c.assign.new.locals) (sym c.in-Assign.is)
     (assigns _ _ _ c.begin_statement.new.self _ _ _ _ c.in-Assign.target c.in-Assign.op c.in-Assign.right c.in_ok-begin_statement.ensures.begins c.assign.ensures.runs)
 
-pub exec-returns-in-If-clause-runs : goal.exec-returns-in-If-clause-runs
-exec-returns-in-If-clause-runs t c =
+pub statement-returns-in-If-clause-runs : goal.statement-returns-in-If-clause-runs
+statement-returns-in-If-clause-runs t c =
     subst (λ s. Leaves (exec (handle c.args.at.now.room) c.args.at.now.site.now s c.args.self.now c.args.locals.now) c.choose.result c.choose.new.self c.choose.new.locals) (sym c.in-If.is)
     (chooses _ _ _ c.begin_statement.new.self _ _ _ _ c.in-If.condition c.in-If.first c.in-If.otherwise c.in_ok-begin_statement.ensures.begins
     (rw (← c.as_ref-in-If.ensures.value) c.choose.ensures.runs))

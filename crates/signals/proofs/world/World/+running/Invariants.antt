@@ -5,8 +5,8 @@ use Rattle.signals.specs.Running.{handle, exec, in_order, looped, turn_of, chang
 use Rattle.signals.proofs.Turns.{Turning}
 use Rattle.signals.proofs.world.World.+running.Given as goal
 
-abbrev pub decreases-exec : goal.decreases-exec
-decreases-exec l = 20 * l.self.now.left + 0
+abbrev pub decreases-statement : goal.decreases-statement
+decreases-statement l = 20 * l.self.now.left + 0
 
 abbrev pub decreases-run_body : goal.decreases-run_body
 decreases-run_body l = 20 * l.self.now.left + 2
