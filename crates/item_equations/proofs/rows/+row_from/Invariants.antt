@@ -1,0 +1,5 @@
+use Rattle.std.proofs.Common.{◌≡◌, ℕ, ◌+◌, ◌-◌, ◌*◌, ◌<◌, ◌≤◌, length}
+use Rattle.item_equations.proofs.rows.+row_from.Given as goal
+
+abbrev pub decreases-row_from : goal.decreases-row_from
+decreases-row_from g l = l.left

@@ -1,0 +1,10 @@
+pub mod Asking
+pub mod Family
+pub mod Slots
+pub mod Reads
+pub mod Ties
+pub mod Rows
+pub mod Lines
+pub mod Records
+pub mod Children
+pub mod Native

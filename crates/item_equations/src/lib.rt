@@ -1,0 +1,22 @@
+//! What the slots of an item show that follow from its anchors, its parent and its children: place and size,
+//! `childrenRect`, and whether it is visible and enabled (Qt 5 QML Reference, Positioning with Anchors, and Item).
+//! Which places an equation reads, and in which order, depends on what it has read before.
+#![tactic(auto)]
+
+pub mod axis;
+mod children;
+mod lines;
+pub mod native;
+mod reading;
+mod records;
+mod rows;
+mod shown;
+pub mod stop;
+pub mod ties;
+pub mod view;
+
+pub use axis::Axis;
+pub use native::{Native, evaluate, native_of};
+pub use stop::Stop;
+pub use ties::{Kin, Spot, Tie, tie_of};
+pub use view::ItemReader;
