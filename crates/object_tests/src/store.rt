@@ -5,7 +5,7 @@ use object_tree::Objects;
 use qml_ast::{DocFault, EvalFault, Place, Side, Text, Value};
 use std::alloc::Global;
 use std::test::Fail;
-use type_table::item_slots::{OBJECT_NAME, PARENT, WIDTH, X};
+use type_table::item_slots::{OBJECT_NAME, PARENT, WIDTH, X, Y};
 
 // How many places a store has, up to a thousand.
 fn place_count(objects: &Objects) -> usize {
@@ -125,5 +125,47 @@ fn is_written(alloc: Global) -> Result<bool, DocFault> {
 #[test]
 fn documents_write_slots(rt: HostRuntime) -> Result<(), Fail> {
     assert!(rt; is_written(rt.alloc())?);
+    Ok(())
+}
+
+// In which items objects stand: of the root, a child, the value of a property, and an object that is no item and owns
+// one.
+fn stands_in_items(alloc: Global) -> Result<bool, DocFault> {
+    let text = "Item { property Item p: Item { } QtObject { property Item q: Item { } } }";
+    let objects = made(alloc, INNER, text)?;
+    let child = made(alloc, INNER, "A { }")?;
+    Ok(
+        objects.item_parent(1).is_none()
+            && objects.item_parent(2) == Some(1)
+            && objects.item_parent(3).is_none()
+            && objects.item_parent(4).is_none()
+            && objects.item_parent(5).is_none()
+            && objects.item_parent(6).is_none()
+            && matches!(objects.owned(2), [3, 4])
+            && objects.owned(6).is_empty()
+            && child.item_parent(4) == Some(2),
+    )
+}
+
+#[test]
+fn items_stand_in_items(rt: HostRuntime) -> Result<(), Fail> {
+    assert!(rt; stands_in_items(rt.alloc())?);
+    Ok(())
+}
+
+// What is kept of ignored anchors, and what the next keeping forgets.
+fn is_kept(alloc: Global) -> Result<bool, DocFault> {
+    let mut objects = made(alloc, INNER, "Item { }")?;
+    let (x, y) = (shown(2, X), shown(2, Y));
+    let is_new = !objects.was_ignored(x);
+    objects.keep_ignored(alloc, &[x, y, x])?;
+    let is_first = objects.was_ignored(x) && objects.was_ignored(y);
+    objects.keep_ignored(alloc, &[y])?;
+    Ok(is_new && is_first && objects.was_ignored(y) && !objects.was_ignored(x))
+}
+
+#[test]
+fn ignored_places_are_kept(rt: HostRuntime) -> Result<(), Fail> {
+    assert!(rt; is_kept(rt.alloc())?);
     Ok(())
 }

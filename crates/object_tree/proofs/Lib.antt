@@ -7,3 +7,4 @@ pub mod Same
 pub mod Resumed
 pub mod Listed
 pub mod Rising
+pub mod Kept

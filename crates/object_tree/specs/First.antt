@@ -16,10 +16,11 @@ content_item = record {
   names = [];
   signals = 0;
   methods = 0;
+  item_parent = None;
   children = [];
   properties = new_properties 1 1 built_in.Item;
 }
 
 -- the content item alone
 abbrev pub first_store : Store
-first_store = record { objects = with_next (record { last = 0; things = [] }) content_item; contexts = []; settle = 1 }
+first_store = record { objects = with_next (record { last = 0; things = [] }) content_item; contexts = []; settle = 1; ignored = [] }

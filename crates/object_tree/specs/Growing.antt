@@ -38,6 +38,7 @@ new_instance settle serial parent depth t = record {
   names = [];
   signals = length (signals t);
   methods = length (methods t);
+  item_parent = None;
   children = [];
   properties = new_properties settle serial t;
 }
@@ -47,7 +48,8 @@ shown_as_parent parent property = record property { shown = record property.show
 
 -- an item that is a child of an item has it as its parent
 abbrev pub in_parent : Bool → ℕ → Instance → Instance
-in_parent is_visual parent instance = if is_visual then with_property (shown_as_parent parent) PARENT instance else instance
+in_parent is_visual parent instance =
+    if is_visual then with_property (shown_as_parent parent) PARENT (record instance { item_parent = Some parent }) else instance
 
 abbrev pub is_visual_in : Bool → BuiltIn → Option Instance → Bool
 is_visual_in as_child t above = as_child && (is_item t && stands_in_item above)

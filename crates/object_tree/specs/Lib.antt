@@ -4,6 +4,7 @@ pub mod Store
 pub mod Properties
 pub mod Layers
 pub mod Reading
+pub mod Ignored
 pub mod Places
 pub mod Order
 pub mod Changes

@@ -1,5 +1,5 @@
 -- What a store holds.
-use Rattle.std.specs.Prelude.{ℕ, ◌+◌, ◌^◌, nat_lt, Bool, false, ◌||◌, if◌then◌else◌, Option, None, Some, is_some, is_none, option_and_then, option_map, slice_get}
+use Rattle.std.specs.Prelude.{ℕ, List, [], ◌+◌, ◌^◌, nat_lt, Bool, false, ◌||◌, if◌then◌else◌, Option, None, Some, is_some, is_none, option_and_then, option_map, slice_get}
 use Rattle.std.specs.Option.{option_or}
 use Rattle.arena.specs.Arena.{thing_at, next_above}
 use Rattle.type_table.specs.declared.slot.SlotInfo.{SlotInfo}
@@ -22,6 +22,14 @@ instance_at serial store = thing_at serial store.objects
 
 abbrev pub is_live : ℕ → Store → Bool
 is_live serial store = is_some (instance_at serial store)
+
+-- the item in which it stands as a visual child
+abbrev pub item_parent_at : ℕ → Store → Option ℕ
+item_parent_at serial store = option_and_then (λ (i : Instance). i.item_parent) (instance_at serial store)
+
+-- the objects that it owns
+abbrev pub owned_by : ℕ → Store → List ℕ
+owned_by serial store = elim (instance_at serial store) [ None ↦ [] | Some i ↦ i.children ]
 
 -- ---- places
 abbrev pub property_at : ℕ → ℕ → Store → Option Property

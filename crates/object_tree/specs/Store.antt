@@ -1,6 +1,7 @@
 -- The objects, and the contexts in which they were made.
 use Rattle.std.specs.Prelude.{◌≡◌, ℕ, List, None}
 use Rattle.arena.specs.Arena.{Arena}
+use Rattle.qml_ast.specs.declared.place.Place.{Place}
 use Rattle.qml_ast.specs.declared.value.Value.{Value}
 use Rattle.qml_ast.specs.declared.value.Value.TheVariants.{Obj, Line}
 use Rattle.object_tree.specs.declared.context.Context.{Context}
@@ -13,6 +14,8 @@ pub record Store : Type 0 where
   pub contexts : List Context
   -- the number of the present settle
   pub settle : ℕ
+  -- the places of the anchors that the last settle ignored, each once
+  pub ignored : List Place
 
 -- what references to objects that are no more are read as
 pub record IsNull (null no_line : Value) : Type 0 where

@@ -49,6 +49,8 @@ pub struct Instance {
     /// How many signals and methods it has.
     pub signals: u32,
     pub methods: u32,
+    /// The item in which it stands as a visual child; none where it is no item, or no visual child.
+    pub item_parent: Option<u64>,
     /// The objects that it owns, in the order in which they were made.
     pub children: Row<u64>,
     /// Its slots: those of the built-in type, and then those that documents declare.

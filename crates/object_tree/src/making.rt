@@ -74,6 +74,7 @@ fn new_instance(
         names: Names::new(alloc),
         signals: u32::from(signal_count(built_in)),
         methods: u32::from(method_count(built_in)),
+        item_parent: None,
         children: Row::new(alloc),
         properties,
     })
@@ -89,13 +90,14 @@ impl Property {
 }
 
 impl Instance {
-    // Shows the item that it stands in, where it is a visual child.
+    // Has the item that it stands in as its parent, and shows it, where it is a visual child.
     fn show_parent(&mut self, is_visual: bool, parent: u64)
         ensures { self.new ≡ in_parent is_visual parent self.old }
     {
         if !is_visual {
             return;
         }
+        self.item_parent = Some(parent);
         let Some(property) = self.properties.get_mut(PARENT as usize) else {
             return;
         };

@@ -7,7 +7,8 @@ use crate::instance::{Instance, Object};
 use crate::names::Names;
 use crate::row::Row;
 use arena::Arena;
-use qml_ast::Value;
+use indexmap::IndexSet;
+use qml_ast::{Place, Value};
 use std::alloc::{AllocError, Global};
 use std::marker::Model;
 use type_table::BuiltIn;
@@ -20,6 +21,8 @@ pub struct Objects {
     pub(crate) contexts: Row<Context>,
     // The number of the present settle.
     pub(crate) settle: u64,
+    // The places of the anchors that the last settle ignored.
+    pub(crate) ignored: IndexSet<Place>,
     // What references to objects that are no more are read as.
     pub(crate) null: Value,
     pub(crate) no_line: Value,
@@ -35,7 +38,7 @@ impl Model for Objects {
 
     ghost coded = { Prim.hlevel (codes, expr.the_row.coded, component.the_row.coded) };
 
-    ghost view = { λ o. record { objects = o.objects; contexts = o.contexts; settle = o.settle } };
+    ghost view = { λ o. record { objects = o.objects; contexts = o.contexts; settle = o.settle; ignored = o.ignored.keys } };
 
     ghost invariant = { λ o. IsNull o.null o.no_line };
 }
@@ -57,6 +60,7 @@ fn content_item(alloc: Global) -> Result<Instance, AllocError>
         names: Names::new(alloc),
         signals: 0,
         methods: 0,
+        item_parent: None,
         children: Row::new(alloc),
         properties,
     })
@@ -73,6 +77,7 @@ impl Objects {
             objects,
             contexts: Row::new(alloc),
             settle: 1,
+            ignored: IndexSet::new(alloc),
             null: Value::Obj(0),
             no_line: Value::Line(None),
         })

@@ -1,7 +1,7 @@
 ghost use Rattle.std.specs.Prelude.{◌≡◌, length, option_copied, option_map, slice_get, unwrap_or};
 ghost use Rattle.object_tree.specs.Layers.{decl_of, slots_in, declared_slots, slot_path_of};
 ghost use Rattle.object_tree.specs.Origins.{path_at, seen_at, type_origin, type_origin_at, origin_of};
-ghost use Rattle.object_tree.specs.Reading.{instance_at, is_live, property_at, held_at, value_read, value_at, binding_at, marks_at, is_given_at, info_at, place_in, first_from, next_within, first_above, place_after};
+ghost use Rattle.object_tree.specs.Reading.{instance_at, is_live, property_at, held_at, value_read, value_at, binding_at, marks_at, is_given_at, info_at, place_in, first_from, next_within, first_above, place_after, item_parent_at, owned_by};
 
 use crate::instance::{Instance, Layer, Object};
 use crate::objects::Objects;
@@ -118,6 +118,25 @@ impl Objects {
         ensures { result ≡ unwrap_or (option_map (λ i. slice_get i.children at) (instance_at serial self.now)) None }
     {
         self.objects.get(serial)?.children.get(at).copied()
+    }
+
+    /// The item in which an object stands as a visual child. None where it is no item or no visual child, and
+    /// where no such object is live.
+    pub fn item_parent(&self, serial: u64) -> Option<u64>
+        ensures { result ≡ item_parent_at serial self.now }
+    {
+        self.objects.get(serial)?.item_parent
+    }
+
+    /// The serials of the objects that an object owns, in the order in which they were made. None are there where
+    /// no such object is live.
+    pub fn owned(&self, serial: u64) -> &[u64]
+        ensures { result.now ≡ owned_by serial self.now }
+    {
+        match self.objects.get(serial) {
+            Some(instance) => instance.children.as_slice(),
+            None => &[],
+        }
     }
 
     /// What is known of the slot of a place. Documents write no slot of a content item. None where there is
