@@ -12,6 +12,7 @@ use Rattle.expr_eval.specs.Walks.{all_noted, reads_then}
 use Rattle.expr_eval.specs.declared.answer.Eval.{Eval}
 use Rattle.expr_eval.specs.declared.answer.Eval.TheVariants as said
 use Rattle.expr_eval.proofs.Follows.{answers}
+use Rattle.item_equations.specs.declared.native.Native.{Native}
 use Rattle.settling.specs.Cells.{value_of}
 use Rattle.settling.specs.Holding.{IsPath, Reads}
 use Rattle.settling.specs.Loops.{AreChains}
@@ -20,7 +21,7 @@ use Rattle.object_tree.specs.declared.property.Binding.{Binding}
 use Rattle.object_tree.specs.Reading.{instance_at, binding_at, info_at}
 use Rattle.object_tree.specs.Store.{Store}
 use Rattle.object_tree.specs.Writing.{ended}
-use Rattle.binding_engine.specs.Equations.{shape_of, given, taken_in, bound_tree, shown_tree, is_native, has_owner, equation_by, equation, tree_at, equated}
+use Rattle.binding_engine.specs.Equations.{shape_of, given, taken_in, bound_tree, native_tree, native_at, has_owner, equation_by, equation, tree_at, equated}
 use Rattle.binding_engine.specs.Holding.{value_in, meanings_of, reads_by, reads_at, ReadsIn, IsPathIn, AreChainsIn, mark_in, AreLoopsIn}
 use Rattle.binding_engine.specs.Findings.{faulted_in, faulted_from, AreLoops}
 use Rattle.binding_engine.specs.Settling.{settled_from, settled_store}
@@ -100,17 +101,17 @@ bound_reads store p (said.Faulted f, trace) = refl
 bound_reads store p (said.Needs q, trace) = refl
 
 tree_reads : (store : Store) (p q : Place) → IsRead (value_in store) q (tree_at store p) → ReadsIn store p q
-unfolding reads_at equation bound_tree shown_tree
-tree_reads store p q h = by (has_owner (instance_at p.serial store)) (binding_at p store) (is_native p store) h
+unfolding reads_at equation bound_tree
+tree_reads store p q h = by (has_owner (instance_at p.serial store)) (binding_at p store) (native_at store p) h
   where
-    by : (owned : Bool) (b : Option Binding) (native : Bool) → IsRead (value_in store) q (unwrap_or (if owned then equation_by store p b native else None) (faults WrongKind)) →
+    by : (owned : Bool) (b : Option Binding) (native : Option Native) → IsRead (value_in store) q (unwrap_or (if owned then equation_by store p b native else None) (faults WrongKind)) →
         among (if owned then reads_by store p b native else []) q ≡ true
     by true (Some b) native h =
         let whole = answers (shape_of store) (value_in store) b.expr b.frame [] (λ v. given (taken_in (info_at p store) store v)) in
         subst (λ (ps : List Place). among ps q ≡ true) (whole.reads ∙ bound_reads store p (value_and_reads (meanings_of store) b.expr b.frame []))
         (read_noted (reads (bound_tree store p b) (value_in store)) [] q (read_listed (value_in store) q (bound_tree store p b) h))
-    by true None true h = read_listed (value_in store) q (shown_tree store p) h
-    by true None false h = read_listed (value_in store) q (faults WrongKind) h
+    by true None (Some native) h = read_listed (value_in store) q (native_tree store native p.serial) h
+    by true None None h = read_listed (value_in store) q (faults WrongKind) h
     by false b native h = read_listed (value_in store) q (faults WrongKind) h
 
 -- ---- over the settled store

@@ -12,6 +12,7 @@ use Rattle.qml_ast.specs.declared.place.Side.{Side}
 use Rattle.qml_ast.specs.declared.place.Side.TheVariants.{Set, Shown}
 use Rattle.expr_eval.specs.Traces.{are_same}
 use Rattle.expr_eval.specs.Trees.{Tree}
+use Rattle.item_equations.specs.declared.native.Native.{Native}
 use Rattle.settling.specs.Cells.{is_fresh, is_ready}
 use Rattle.settling.specs.Settling.{Covers, IsReady}
 use Rattle.object_tree.specs.declared.instance.Instance.{Instance}
@@ -22,7 +23,7 @@ use Rattle.object_tree.specs.Properties.{held_of, binding_of}
 use Rattle.object_tree.specs.Places.{places_in_slot, places_from, places_in, places_under, places_of, side_of}
 use Rattle.object_tree.specs.Reading.{instance_at, property_at, held_at, binding_at, is_place}
 use Rattle.object_tree.specs.Store.{Store}
-use Rattle.binding_engine.specs.Equations.{equation, equation_by, has_equation, has_owner, is_native, is_shown, equated}
+use Rattle.binding_engine.specs.Equations.{equation, equation_by, has_equation, has_owner, native_in, native_at, equated}
 use Rattle.binding_engine.specs.Standing as standing
 use Rattle.binding_engine.specs.Standing.{one_place, itself, is_suspended_in, first_of, first}
 use Rattle.binding_engine.specs.Entries.{Entries, at, space, entry_at, cell_in, first_entry_of, first_entry, inserted, with_first, first_entries}
@@ -130,19 +131,21 @@ bound_placed : (side : Side) (o : Option Property) (b : Binding) → option_and_
 bound_placed side None b h = absurd cc
 bound_placed side (Some p) b h = bound_side side p b h
 
-native_placed : (side : Side) (o : Option Property) → (is_shown side && is_some (option_and_then (held_of Set) o)) ≡ true → is_some (option_and_then (held_of side) o) ≡ true
-native_placed Set o h = absurd cc
-native_placed Shown None h = absurd cc
-native_placed Shown (Some p) h = refl
+native_placed : (b : Bool) (n : Option Native) → is_some (if b then n else None) ≡ true → b ≡ true
+native_placed true n h = refl
+native_placed false n h = absurd cc
 
 pub equation_placed : (store : Store) (q : Place) → has_equation store q ≡ true → is_place q store ≡ true
 unfolding equation
-equation_placed store q h = by (has_owner (instance_at q.serial store)) (binding_at q store) refl (is_native q store) refl h
+equation_placed store q h = by (has_owner (instance_at q.serial store)) (binding_at q store) refl (native_at store q) refl h
   where
-    by : (owned : Bool) (b : Option Binding) → binding_at q store ≡ b → (n : Bool) → is_native q store ≡ n → is_some (if owned then equation_by store q b n else None) ≡ true → is_place q store ≡ true
+    native : Option Native
+    native = native_in (instance_at q.serial store) q
+
+    by : (owned : Bool) (b : Option Binding) → binding_at q store ≡ b → (n : Option Native) → native_at store q ≡ n → is_some (if owned then equation_by store q b n else None) ≡ true → is_place q store ≡ true
     by true (Some b) e n f s = bound_placed q.side (property_at q.serial q.slot store) b e
-    by true None e true f s = native_placed q.side (property_at q.serial q.slot store) f
-    by true None e false f s = absurd cc
+    by true None e (Some n) f s = native_placed (is_place q store) native (ap is_some f)
+    by true None e None f s = absurd cc
     by false b e n f s = absurd cc
 
 pub equation_listed : (store : Store) (q : Place) → has_equation store q ≡ true → among (places_of store) q ≡ true

@@ -19,7 +19,10 @@ use Rattle.expr_eval.specs.declared.found.Found.{Found}
 use Rattle.expr_eval.specs.declared.found.Found.TheVariants as found
 use Rattle.expr_eval.specs.declared.found.Frame.{Frame}
 use Rattle.expr_eval.specs.declared.found.GroupName.{GroupName}
-use Rattle.settling.specs.Runs.{gives, asks}
+use Rattle.item_equations.specs.Asking.{as_tree}
+use Rattle.item_equations.specs.Family.{Family}
+use Rattle.item_equations.specs.Native as items
+use Rattle.item_equations.specs.declared.native.Native.{Native}
 use Rattle.object_tree.specs.declared.context.Context.{Context}
 use Rattle.object_tree.specs.declared.instance.Instance.{Instance}
 use Rattle.object_tree.specs.declared.property.Binding.{Binding}
@@ -32,11 +35,11 @@ use Rattle.object_tree.specs.Looking.{member_named, member_in, member_of, or_non
 use Rattle.object_tree.specs.Names.{named}
 use Rattle.object_tree.specs.Places.{side_of, places_in_slot, places_from, places_in, places_under, places_of}
 use Rattle.object_tree.specs.Properties.{held_of, binding_of, with_value, with_marks, restarted}
-use Rattle.object_tree.specs.Reading.{instance_at, property_at, is_place, is_live, value_read, binding_at, info_in, info_at}
+use Rattle.object_tree.specs.Reading.{instance_at, property_at, is_place, is_live, item_parent_at, owned_by, is_given_at, value_read, binding_at, info_in, info_at}
 use Rattle.object_tree.specs.Store.{Store}
 use Rattle.object_tree.specs.Taking.{taken, component_at}
 use Rattle.object_tree.specs.Writing.{with_item, with_instance, with_property, with_slot, kept, marked, restarted_first, restarted_instance, restarted_up_to, ended}
-use Rattle.binding_engine.specs.Equations.{shape_of, given, taken_in, bound_tree, set_side, shown_tree, is_shown, is_native, has_owner, equation_by, equation}
+use Rattle.binding_engine.specs.Equations.{shape_of, given, taken_in, bound_tree, family_of, native_tree, native_in, native_at, has_owner, equation_by, equation}
 
 abbrev nothing : Held
 nothing = record { value = value.Obj 0; marks = record { suspended = false; fault = None } }
@@ -299,21 +302,52 @@ module _ (store : Store) where
       (λ i. tree (shapes i) b.expr b.frame [] (λ v. given (taken_in (infos q i) bare v)))
       ∙ (λ i. tree (shape_of store) b.expr b.frame [] (λ v. given (takes_in (info_at q store) v i)))
 
-  shown_trees : (q : Place) → shown_tree bare q ≡ shown_tree store q
-  unfolding shown_tree
-  shown_trees q = λ i. asks (set_side q) (λ v. gives (read_value v i))
+  parents : (n : ℕ) → item_parent_at n bare ≡ item_parent_at n store
+  parents n = asked (option_and_then (λ (i : Instance). i.item_parent)) (λ i. refl) n
 
-  by_parts : (q : Place) (b : Option Binding) (native : Bool) → equation_by bare q b native ≡ equation_by store q b native
+  given_slots : (q : Place) → is_given_at q bare ≡ is_given_at q store
+  given_slots q = ap is_given (slot q.serial q.slot) ∙ by (property_at q.serial q.slot store)
+    where
+      is_given : Option Property → Bool
+      is_given None = false
+      is_given (Some p) = p.is_given
+
+      by : (o : Option Property) → is_given (option_map hollow_slot o) ≡ is_given o
+      by None = refl
+      by (Some p) = refl
+
+  families : family_of bare ≡ family_of store
+  families = λ i. record {
+    parent = λ n. parents n i;
+    owned = λ n. owned_of n i;
+    is_set = λ q. given_slots q i;
+  }
+    where
+      children_of : Option Instance → List ℕ
+      children_of None = []
+      children_of (Some i) = i.children
+
+      owned_of : (n : ℕ) → owned_by n bare ≡ owned_by n store
+      owned_of n = asked children_of (λ i. refl) n
+
+  native_trees : (native : Native) (n : ℕ) → native_tree bare native n ≡ native_tree store native n
+  unfolding native_tree
+  native_trees native n = λ i. as_tree (λ v. read_value v i) (items.equation (families i) native n)
+
+  by_parts : (q : Place) (b : Option Binding) (native : Option Native) → equation_by bare q b native ≡ equation_by store q b native
   by_parts q (Some b) native = ap Some (bound_trees q b)
-  by_parts q None true = ap Some (shown_trees q)
-  by_parts q None false = refl
+  by_parts q None (Some native) = ap Some (native_trees native q.serial)
+  by_parts q None None = refl
+
+  natives : (q : Place) → native_at bare q ≡ native_at store q
+  natives q = λ i. if placed q i then asked (λ o. native_in o q) (λ j. refl) q.serial i else None
 
   -- a place has the same expression there
   pub equations : (q : Place) → equation bare q ≡ equation store q
   unfolding equation
   equations q =
-      (λ i. if asked has_owner (λ j. refl) q.serial i then equation_by bare q (bound q i) (is_shown q.side && placed (set_side q) i) else None)
-      ∙ ap (λ (t : Option Tree). if has_owner (instance_at q.serial store) then t else None) (by_parts q (binding_at q store) (is_native q store))
+      (λ i. if asked has_owner (λ j. refl) q.serial i then equation_by bare q (bound q i) (natives q i) else None)
+      ∙ ap (λ (t : Option Tree). if has_owner (instance_at q.serial store) then t else None) (by_parts q (binding_at q store) (native_at store q))
 
   -- there are the same places
   slots_listed : (n k : ℕ) (ps : List Property) → places_from n k (map hollow_slot ps) ≡ places_from n k ps

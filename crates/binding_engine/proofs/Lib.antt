@@ -1,5 +1,6 @@
 pub mod Moves
 pub mod Walking
+pub mod Natives
 pub mod Alike
 pub mod Unmoved
 pub mod Covered

@@ -1,5 +1,6 @@
 -- The expressions of places, as trees of what they read.
-use Rattle.std.specs.Prelude.{Bool, true, false, ◌&&◌, if◌then◌else◌, Option, None, Some, is_some, unwrap_or, List, [], filter}
+use Rattle.std.specs.Prelude.{ℕ, Bool, true, false, ◌&&◌, if◌then◌else◌, Option, None, Some, is_some, unwrap_or, List, [], filter}
+use Rattle.type_table.specs.Slots.{is_item}
 use Rattle.type_table.specs.declared.slot.SlotInfo.{SlotInfo}
 use Rattle.qml_ast.specs.declared.eval_fault.EvalFault.TheVariants.{WrongKind}
 use Rattle.qml_ast.specs.declared.place.Place.{Place}
@@ -8,13 +9,18 @@ use Rattle.qml_ast.specs.declared.place.Side.TheVariants.{Set, Shown}
 use Rattle.qml_ast.specs.declared.value.Value.{Value}
 use Rattle.expr_eval.specs.Shapes.{Shape}
 use Rattle.expr_eval.specs.Trees.{Tree, tree}
-use Rattle.settling.specs.Runs.{gives, faults, asks}
+use Rattle.settling.specs.Runs.{gives, faults}
+use Rattle.item_equations.specs.Asking.{as_tree}
+use Rattle.item_equations.specs.Family.{Family}
+use Rattle.item_equations.specs.Native.{native_of}
+use Rattle.item_equations.specs.Native as items
+use Rattle.item_equations.specs.declared.native.Native.{Native}
 use Rattle.object_tree.specs.declared.instance.Instance.{Instance}
 use Rattle.object_tree.specs.declared.property.Binding.{Binding}
 use Rattle.object_tree.specs.Handlers.{callable_at}
 use Rattle.object_tree.specs.Looking.{looked_up, member_of}
 use Rattle.object_tree.specs.Places.{places_of}
-use Rattle.object_tree.specs.Reading.{instance_at, binding_at, info_at, is_place, value_read}
+use Rattle.object_tree.specs.Reading.{instance_at, item_parent_at, owned_by, is_given_at, binding_at, info_at, is_place, value_read}
 use Rattle.object_tree.specs.Store.{Store}
 use Rattle.object_tree.specs.Taking.{taken}
 
@@ -41,35 +47,44 @@ unfoldable pub bound_tree : Store → Place → Binding → Tree
 bound_tree store place binding =
     tree (shape_of store) binding.expr binding.frame [] (λ v. given (taken_in (info_at place store) store v))
 
-abbrev pub set_side : Place → Place
-set_side place = record place { side = Set }
+-- How items stand in each other. No place's value has a part in it.
+abbrev pub family_of : Store → Family
+family_of store = record {
+  parent = λ item. item_parent_at item store;
+  owned = λ item. owned_by item store;
+  is_set = λ place. is_given_at place store;
+}
 
--- the value of a shown place whose slot has two sides: what the slot is set to
-unfoldable pub shown_tree : Store → Place → Tree
-shown_tree store place = asks (set_side place) (λ v. gives (value_read store v))
+-- what an item's slot shows by its own equation
+unfoldable pub native_tree : Store → Native → ℕ → Tree
+native_tree store native item = as_tree (value_read store) (items.equation (family_of store) native item)
 
 abbrev pub is_shown : Side → Bool
 is_shown Set = false
 is_shown Shown = true
 
--- a shown place has an equation of its own where its slot has two sides
-abbrev pub is_native : Place → Store → Bool
-is_native place store = is_shown place.side && is_place (set_side place) store
+-- what an item shows of some slots follows from an equation of its own
+abbrev pub native_in : Option Instance → Place → Option Native
+native_in None place = None
+native_in (Some instance) place = if is_item instance.built_in && is_shown place.side then native_of place.slot else None
+
+abbrev pub native_at : Store → Place → Option Native
+native_at store place = if is_place place store then native_in (instance_at place.serial store) place else None
 
 -- the content item, which no object owns, has no equations
 abbrev pub has_owner : Option Instance → Bool
 has_owner None = false
 has_owner (Some instance) = is_some instance.object.parent
 
-abbrev pub equation_by : Store → Place → Option Binding → Bool → Option Tree
+abbrev pub equation_by : Store → Place → Option Binding → Option Native → Option Tree
 equation_by store place (Some binding) native = Some (bound_tree store place binding)
-equation_by store place None true = Some (shown_tree store place)
-equation_by store place None false = None
+equation_by store place None (Some native) = Some (native_tree store native place.serial)
+equation_by store place None None = None
 
 -- the expression of a place that is bound or native
 unfoldable pub equation : Store → Place → Option Tree
 equation store place =
-    if has_owner (instance_at place.serial store) then equation_by store place (binding_at place store) (is_native place store) else None
+    if has_owner (instance_at place.serial store) then equation_by store place (binding_at place store) (native_at store place) else None
 
 abbrev pub has_equation : Store → Place → Bool
 has_equation store place = is_some (equation store place)

@@ -10,14 +10,16 @@ use Rattle.expr_eval.specs.Needs.{value_and_reads}
 use Rattle.expr_eval.specs.Shapes.{meanings}
 use Rattle.expr_eval.specs.Traces.{are_same}
 use Rattle.expr_eval.specs.declared.answer.Eval.{Eval}
-use Rattle.expr_eval.specs.declared.answer.Eval.TheVariants as answer
+use Rattle.expr_eval.specs.declared.answer.Eval.TheVariants as said
+use Rattle.item_equations.specs.declared.native.Native.{Native}
 use Rattle.settling.specs.Loops.{has_loop, AreOnce}
+use Rattle.settling.specs.Runs.{answer, reads}
 use Rattle.object_tree.specs.declared.property.Binding.{Binding}
 use Rattle.object_tree.specs.declared.property.Held.{Held}
 use Rattle.object_tree.specs.Places.{places_of}
-use Rattle.object_tree.specs.Reading.{instance_at, binding_at, info_at, held_at, value_read}
+use Rattle.object_tree.specs.Reading.{instance_at, binding_at, info_at, held_at}
 use Rattle.object_tree.specs.Store.{Store}
-use Rattle.binding_engine.specs.Equations.{shape_of, taken_in, set_side, is_native, has_owner}
+use Rattle.binding_engine.specs.Equations.{shape_of, taken_in, native_tree, native_at, has_owner}
 use Rattle.binding_engine.specs.Standing.{space, kept_in, is_suspended_in}
 
 -- what a place of a store holds
@@ -35,20 +37,20 @@ taken_or_wrong (Some v) = Ok v
 
 -- what an expression's answer is at its place. Nothing is needed where each place has its value.
 abbrev pub result_of : Store → Place → Eval → Result Value EvalFault
-result_of store place (answer.Is v) = taken_or_wrong (taken_in (info_at place store) store v)
-result_of store place (answer.Faulted f) = Err f
-result_of store place (answer.Needs p) = Err WrongKind
+result_of store place (said.Is v) = taken_or_wrong (taken_in (info_at place store) store v)
+result_of store place (said.Faulted f) = Err f
+result_of store place (said.Needs p) = Err WrongKind
 
-abbrev pub result_by : Store → Place → Option Binding → Bool → Option (Result Value EvalFault)
+abbrev pub result_by : Store → Place → Option Binding → Option Native → Option (Result Value EvalFault)
 result_by store place (Some b) native = Some (result_of store place (value_and_reads (meanings_of store) b.expr b.frame []).0)
-result_by store place None true = Some (Ok (value_read store (value_in store (set_side place))))
-result_by store place None false = None
+result_by store place None (Some native) = Some (answer (native_tree store native place.serial) (value_in store))
+result_by store place None None = None
 
--- The value, or the fault, of the expression that a place is bound to over this store, as its slot takes it; of a shown place whose slot has
--- two sides, what the slot is set to. Other places have none.
+-- The value, or the fault, of the expression that a place is bound to over this store, as its slot takes it; of what an item shows by an equation of
+-- its own, that of the equation. Other places have none.
 unfoldable pub result_at : Store → Place → Option (Result Value EvalFault)
 result_at store place =
-    if has_owner (instance_at place.serial store) then result_by store place (binding_at place store) (is_native place store) else None
+    if has_owner (instance_at place.serial store) then result_by store place (binding_at place store) (native_at store place) else None
 
 -- the place has the value and no mark, or the mark of the fault
 abbrev pub Fulfils : Result Value EvalFault → Held → Type 0
@@ -71,14 +73,14 @@ EquationsHold store = (place : Place) → HoldsOf (result_at store place) (held_
 
 -- ---- reads
 -- the places that the expression of a place reads over this store, in the order of their first reads
-abbrev pub reads_by : Store → Place → Option Binding → Bool → List Place
+abbrev pub reads_by : Store → Place → Option Binding → Option Native → List Place
 reads_by store place (Some b) native = (value_and_reads (meanings_of store) b.expr b.frame []).1
-reads_by store place None true = set_side place ∷ []
-reads_by store place None false = []
+reads_by store place None (Some native) = reads (native_tree store native place.serial) (value_in store)
+reads_by store place None None = []
 
 unfoldable pub reads_at : Store → Place → List Place
 reads_at store place =
-    if has_owner (instance_at place.serial store) then reads_by store place (binding_at place store) (is_native place store) else []
+    if has_owner (instance_at place.serial store) then reads_by store place (binding_at place store) (native_at store place) else []
 
 -- the expression of one place reads the other place
 abbrev pub ReadsIn : Store → Place → Place → Type 0

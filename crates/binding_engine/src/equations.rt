@@ -1,12 +1,14 @@
-ghost use Rattle.std.specs.Prelude.{◌≡◌, IfOk};
+ghost use Rattle.std.specs.Prelude.{◌≡◌, Some, IfOk};
 ghost use Rattle.object_tree.specs.Reading.{instance_at};
-ghost use Rattle.binding_engine.specs.Equations.{has_owner, is_native, has_equation};
+ghost use Rattle.binding_engine.specs.Equations.{has_owner, native_in, native_at, has_equation};
 ghost use Rattle.binding_engine.specs.Entries.{first_entry};
 
 use crate::cells::{Entry, Stage};
-use object_tree::Objects;
+use item_equations::{Native, native_of};
+use object_tree::{Instance, Objects};
 use qml_ast::{Place, Side, Value};
 use std::alloc::{AllocError, Global};
+use type_table::is_item;
 
 /// Whether an object owns that one. None owns the content item.
 pub(crate) fn has_owner(objects: &Objects, serial: u64) -> bool
@@ -18,20 +20,23 @@ pub(crate) fn has_owner(objects: &Objects, serial: u64) -> bool
     }
 }
 
-/// Whether a place shows what its slot is set to, as a slot with two sides does.
-pub(crate) fn is_native(objects: &Objects, place: Place) -> bool
-    ensures { result ≡ is_native place objects.now }
+// The equation of what an item shows of a slot of that number.
+fn native_in(instance: &Instance, place: Place) -> Option<Native>
+    ensures { result ≡ native_in (Some instance.now) place }
 {
-    match place.side {
-        Side::Set => false,
-        Side::Shown => {
-            let set = Place {
-                side: Side::Set,
-                ..place
-            };
-            objects.held(set).is_some()
-        }
+    if is_item(instance.built_in) && place.side == Side::Shown {
+        native_of(place.slot)
+    } else {
+        None
     }
+}
+
+/// The equation of what an item shows, if the place has one.
+pub(crate) fn native_at(objects: &Objects, place: Place) -> Option<Native>
+    ensures { result ≡ native_at objects.now place }
+{
+    objects.held(place)?;
+    native_in(objects.instance(place.serial)?, place)
 }
 
 /// Whether a place is bound to an expression, or has an equation of its own. Those of the content item have none.
@@ -40,7 +45,7 @@ pub(crate) fn has_equation(objects: &Objects, place: Place) -> bool
     ensures { result ≡ has_equation objects.now place }
 {
     has_owner(objects, place.serial)
-        && (objects.binding(place).is_some() || is_native(objects, place))
+        && (objects.binding(place).is_some() || native_at(objects, place).is_some())
 }
 
 /// What a place with an expression has as a settle begins.

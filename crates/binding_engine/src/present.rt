@@ -4,15 +4,16 @@ ghost use Rattle.settling.specs.Evaluations.{walk};
 ghost use Rattle.expr_eval.specs.Shapes.{meanings};
 ghost use Rattle.object_tree.specs.Order.{AreRising};
 ghost use Rattle.object_tree.specs.Places.{places_of};
-ghost use Rattle.binding_engine.specs.Equations.{shape_of, bound_tree, shown_tree, taken_in, tree_at, equated, has_equation};
+ghost use Rattle.binding_engine.specs.Equations.{shape_of, family_of, bound_tree, native_tree, taken_in, tree_at, equated, has_equation};
 ghost use Rattle.object_tree.specs.Reading.{info_at};
 ghost use Rattle.binding_engine.specs.Entries.{State, at, space, outcome_of, told, with_first, first_entries};
 
 use crate::cells::{Cells, Entry, Stage};
-use crate::equations::{first_entry, has_equation, has_owner, is_native};
+use crate::equations::{first_entry, has_equation, has_owner, native_at};
 use expr_eval::{Eval, Found, Frame, GroupName, Locals, Method, Reader, Trace, eval};
+use item_equations::{ItemReader, Native, Stop, evaluate};
 use object_tree::{Binding, Objects};
-use qml_ast::{EvalFault, Name, Place, Side, Value};
+use qml_ast::{EvalFault, Name, Place, Value};
 use settling::{Field, Phase};
 use std::alloc::{AllocError, Global};
 
@@ -116,6 +117,22 @@ impl Reader for Present<'_> {
     }
 }
 
+impl ItemReader for Present<'_> {
+    ghost family = { λ present. family_of present.objects.now };
+
+    fn parent(&self, item: u64) -> Option<u64> {
+        self.objects.item_parent(item)
+    }
+
+    fn owned(&self, item: u64) -> &[u64] {
+        self.objects.owned(item)
+    }
+
+    fn is_set(&self, place: Place) -> bool {
+        self.objects.is_set(place)
+    }
+}
+
 impl Present<'_> {
     /// The value as the slot of a place takes it, or the fault that it does not.
     fn taken(&self, place: Place, value: Value) -> Result<Eval, AllocError>
@@ -145,18 +162,14 @@ impl Present<'_> {
         }
     }
 
-    /// What comes of the equation of a place that shows what its slot is set to.
-    #[tactic(auto, unfolding(settling::specs::Evaluations::walk, crate::specs::Equations::shown_tree))]
-    fn shown(&self, place: Place) -> Result<Eval, AllocError>
-        ensures { IfOk result (λ e. outcome_of e ≡ walk space (shown_tree self.now.objects.now place) (self.now.objects.now, self.now.cells)) }
+    /// What comes of an equation of an item.
+    fn native(&self, native: Native, item: u64) -> Eval
+        ensures { outcome_of result ≡ walk space (native_tree self.now.objects.now native item) (self.now.objects.now, self.now.cells) }
     {
-        let set = Place {
-            side: Side::Set,
-            ..place
-        };
-        match self.read(set) {
-            Some(value) => Ok(Eval::Is(value.copy(self.alloc)?)),
-            None => Ok(Eval::Needs(set)),
+        match evaluate(self, native, item) {
+            Ok(value) => Eval::Is(value),
+            Err(Stop::Overflow) => Eval::Faulted(EvalFault::Overflow),
+            Err(Stop::Needs(needed)) => Eval::Needs(needed),
         }
     }
 
@@ -168,9 +181,11 @@ impl Present<'_> {
         if !has_owner(self.objects, place.serial) {
             return Ok(Eval::Faulted(EvalFault::WrongKind));
         }
-        match self.objects.binding(place) {
-            Some(binding) => self.bound(place, binding),
-            None if is_native(self.objects, place) => self.shown(place),
+        if let Some(binding) = self.objects.binding(place) {
+            return self.bound(place, binding);
+        }
+        match native_at(self.objects, place) {
+            Some(native) => Ok(self.native(native, place.serial)),
             None => Ok(Eval::Faulted(EvalFault::WrongKind)),
         }
     }
