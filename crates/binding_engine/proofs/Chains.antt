@@ -18,6 +18,7 @@ use Rattle.settling.specs.Holding.{IsPath, Reads}
 use Rattle.settling.specs.Loops.{AreChains}
 use Rattle.settling.specs.Runs.{faults, reads, IsRead, now, later}
 use Rattle.object_tree.specs.declared.property.Binding.{Binding}
+use Rattle.object_tree.specs.Ignored.{with_ignored}
 use Rattle.object_tree.specs.Reading.{instance_at, binding_at, info_at}
 use Rattle.object_tree.specs.Store.{Store}
 use Rattle.object_tree.specs.Writing.{ended}
@@ -115,14 +116,15 @@ tree_reads store p q h = by (has_owner (instance_at p.serial store)) (binding_at
     by false b native h = read_listed (value_in store) q (faults WrongKind) h
 
 -- ---- over the settled store
-module _ (store : Store) where
+-- ignored: the anchors that count for nothing
+module _ (store : Store) (ignored : List Place) where
   abbrev over : Store
-  over = ended (settled_store store)
+  over = with_ignored ignored (ended (settled_store store))
 
   reads_over : (p q : Place) → Reads space (tree_at store) (settled_from store) p q → ReadsIn over p q
   reads_over p q h =
-      let trees : tree_at over p ≡ tree_at store p = ap (λ (o : Option Tree). unwrap_or o (faults WrongKind)) (equation_over store p) in
-      let same : value_in over ≡ (λ (r : Place). value_of (settled_from store r)) = λ i r. value_over store r i in
+      let trees : tree_at over p ≡ tree_at store p = ap (λ (o : Option Tree). unwrap_or o (faults WrongKind)) (equation_over store ignored p) in
+      let same : value_in over ≡ (λ (r : Place). value_of (settled_from store r)) = λ i r. value_over store ignored r i in
       let valued : IsRead (value_in over) q (tree_at store p) = subst (λ (v : Place → Value). IsRead v q (tree_at store p)) (sym same) h in
       tree_reads over p q (subst (λ (t : Tree). IsRead (value_in over) q t) (sym trees) valued)
 
@@ -137,9 +139,9 @@ module _ (store : Store) where
 
   -- the loops are those of the newly suspended places
   pub loops_over : (loops : List (Place × List Place)) → AreLoops store loops → AreLoopsIn store over loops
-  loops_over loops h = record { suspended = λ p. sym (h.suspended p) ∙ suspended_over store p; once = h.once }
+  loops_over loops h = record { suspended = λ p. sym (h.suspended p) ∙ suspended_over store ignored p; once = h.once }
 
   -- the faults are those that are marked in the store
   pub faults_over : faulted_from store ≡ faulted_in (mark_in over) store (equated store)
   unfolding faulted_from
-  faults_over = λ i. faulted_in (λ p. sym (mark_over store p) i) store (equated store)
+  faults_over = λ i. faulted_in (λ p. sym (mark_over store ignored p) i) store (equated store)

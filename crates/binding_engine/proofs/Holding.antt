@@ -31,6 +31,7 @@ use Rattle.settling.proofs.Fulfilled.{settles_later}
 use Rattle.settling.proofs.Outcome.{settled_ends}
 use Rattle.object_tree.specs.declared.property.Binding.{Binding}
 use Rattle.object_tree.specs.declared.property.Held.{Held}
+use Rattle.object_tree.specs.Ignored.{with_ignored}
 use Rattle.object_tree.specs.Places.{places_of}
 use Rattle.object_tree.specs.Reading.{instance_at, binding_at, info_at, held_at}
 use Rattle.object_tree.specs.Store.{Store}
@@ -260,9 +261,10 @@ module _ {V F : Type 0} where
   becomes_whole (cells.stays e) h = ap is_plain e ∙ h
   becomes_whole (cells.goes_on m step rest) h = becomes_whole rest (step_whole step)
 
-module _ (store : Store) where
+-- ignored: the anchors that count for nothing
+module _ (store : Store) (ignored : List Place) where
   abbrev over : Store
-  over = ended (settled_store store)
+  over = with_ignored ignored (ended (settled_store store))
 
   abbrev cell : Place → Cell Value EvalFault
   cell = settled_from store

@@ -57,7 +57,7 @@ abbrev hollow_things : List (ℕ × Instance) → List (ℕ × Instance)
 hollow_things es = map (λ e. (e.0, hollow e.1)) es
 
 abbrev pub hollowed : Store → Store
-hollowed store = record store { objects = record store.objects { things = hollow_things store.objects.things }; settle = 0 }
+hollowed store = record store { objects = record store.objects { things = hollow_things store.objects.things }; settle = 0; ignored = [] }
 
 -- ---- writes to what places hold leave the hollow store
 abbrev Hollows : (Property → Property) → Type 0

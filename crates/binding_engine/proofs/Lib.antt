@@ -1,6 +1,7 @@
 pub mod Moves
 pub mod Walking
 pub mod Natives
+pub mod Resting
 pub mod Alike
 pub mod Unmoved
 pub mod Covered

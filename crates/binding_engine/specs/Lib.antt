@@ -1,5 +1,6 @@
 pub mod Equations
 pub mod Standing
+pub mod Ignored
 pub mod Settling
 pub mod Entries
 pub mod Findings

@@ -8,11 +8,13 @@ use Rattle.settling.specs.Cells.{Cell, plain, resting, suspended, value_of, mark
 use Rattle.settling.specs.Settling.{settled}
 use Rattle.object_tree.specs.declared.property.Held.{Held}
 use Rattle.object_tree.specs.declared.property.Marks.{Marks}
+use Rattle.object_tree.specs.Ignored.{with_ignored}
 use Rattle.object_tree.specs.Reading.{held_at}
 use Rattle.object_tree.specs.Resuming.{resumed_at}
 use Rattle.object_tree.specs.Store.{Store}
 use Rattle.object_tree.specs.Writing.{kept, marked as with_marks_at, ended}
 use Rattle.binding_engine.specs.Equations.{tree_at, equated}
+use Rattle.binding_engine.specs.Ignored.{ignored_in, places_ignored}
 use Rattle.binding_engine.specs.Standing.{Standing, space, first}
 
 unfoldable pub resumed_after : Store → Place → Store
@@ -57,6 +59,10 @@ with_cells s places store = fold (with_cell_of s) store places
 unfoldable pub settled_store : Store → Store
 settled_store store = with_cells (settled_from store) (equated store) store
 
--- and after the writes to these places: their objects' places are resumed, and the settle ends
+-- the settle of this store ends, and the anchors that count for nothing are kept
+abbrev pub closed : Store → Store
+closed store = with_ignored (places_ignored (ignored_in store)) (ended store)
+
+-- and after the writes to these places: their objects' places are resumed first
 abbrev pub after_settle : List Place → Store → Store
-after_settle writes store = ended (settled_store (resumed_by writes store))
+after_settle writes store = closed (settled_store (resumed_by writes store))

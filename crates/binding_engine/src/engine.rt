@@ -7,12 +7,14 @@ ghost use Rattle.object_tree.specs.Order.{AreRising};
 ghost use Rattle.object_tree.specs.Places.{places_of};
 ghost use Rattle.object_tree.specs.Reading.{held_at};
 ghost use Rattle.object_tree.specs.Store.{Store};
+ghost use Rattle.binding_engine.specs.Ignored.{newly_ignored};
 ghost use Rattle.binding_engine.specs.Entries.{at, cell_of, with_entry_of, with_entries};
 ghost use Rattle.binding_engine.specs.Equations.{equated};
 ghost use Rattle.binding_engine.specs.Settling.{resumed_after, resumed_by, settled_from, valued, with_cell, with_cells, settled_store, after_settle};
 
 use crate::cells::{Cells, Entry};
 use crate::findings::{changed, faulted};
+use crate::ignored::{Ignored, ignored_in, newly_ignored, places_ignored};
 use crate::present::Present;
 use crate::writes::Writes;
 use object_tree::{Marks, Objects};
@@ -34,6 +36,16 @@ pub struct Settled {
     pub loops: Vec<LoopFound<Place>>,
     /// The places whose expression faults with another fault than before, or now and not before, in their order.
     pub faulted: Vec<(Place, EvalFault)>,
+    /// The anchors that count for nothing and that the settle before did not ignore, in the order of their places.
+    pub ignored: Vec<Ignored>,
+}
+
+/// What a settle of the places found, before the anchors are looked at.
+#[derive(Drop)]
+struct Found {
+    changed: Vec<Place>,
+    loops: Vec<LoopFound<Place>>,
+    faulted: Vec<(Place, EvalFault)>,
 }
 
 /// How places stand once they are settled.
@@ -142,7 +154,7 @@ fn write_all(
 }
 
 // Settles the places of objects.
-fn settle_all(alloc: Global, objects: &mut Objects) -> Result<Settled, AllocError>
+fn settle_all(alloc: Global, objects: &mut Objects) -> Result<Found, AllocError>
     ensures store { OnOk result (objects.new ≡ settled_store objects.old) }
     ensures changed { IfOk result (λ settled. settled.changed.items ≡ changed_in objects.new) }
     ensures faulted { IfOk result (λ settled. settled.faulted.items ≡ faulted_from objects.old) }
@@ -160,7 +172,7 @@ fn settle_all(alloc: Global, objects: &mut Objects) -> Result<Settled, AllocErro
     let faulted = faulted(alloc, objects, places.as_slice(), &cells)?;
     write_all(alloc, objects, places.as_slice(), &cells)?;
     let changed = changed(alloc, objects)?;
-    Ok(Settled {
+    Ok(Found {
         changed,
         loops,
         faulted,
@@ -180,7 +192,7 @@ impl Engine {
     /// The places of the written objects that loops had stopped are resumed. Then all places with an expression
     /// are visited in their order, each after what its expression reads. A place that is read while its evaluation
     /// is under way gives its last value, and is suspended when control returns to it. One whose expression
-    /// faults is marked, and keeps its last value.
+    /// faults is marked, and keeps its last value. What is then settled decides which anchors count for nothing.
     ///
     /// Its only error is that memory ran out. Nothing is then said of the objects.
     pub fn settle(
@@ -194,6 +206,7 @@ impl Engine {
         ensures keeps { OnOk result (KeepsLast (resumed_by writes.now objects.old) objects.new) }
         ensures changed { IfOk result (λ settled. settled.changed.items ≡ changed_in (settled_store (resumed_by writes.now objects.old))) }
         ensures faulted { IfOk result (λ settled. settled.faulted.items ≡ faulted_in (mark_in objects.new) (resumed_by writes.now objects.old) (equated (resumed_by writes.now objects.old))) }
+        ensures ignored { IfOk result (λ settled. settled.ignored.items ≡ newly_ignored (settled_store (resumed_by writes.now objects.old))) }
         ensures changed_rise { IfOk result (λ settled. AreRising settled.changed.items) }
         ensures faulted_rise { IfOk result (λ settled. AreRising (places_faulted settled.faulted.items)) }
         ensures loops { IfOk result (λ settled. AreLoopsIn (resumed_by writes.now objects.old) objects.new (map shown settled.loops.items)) }
@@ -203,7 +216,16 @@ impl Engine {
     {
         resume_all(objects, writes.as_slice());
         let settled = settle_all(alloc, objects)?;
+        let all = ignored_in(alloc, objects)?;
+        let ignored = newly_ignored(alloc, objects, all.as_slice())?;
+        let places = places_ignored(alloc, all.as_slice())?;
         objects.end_settle();
-        Ok(settled)
+        objects.keep_ignored(alloc, places.as_slice())?;
+        Ok(Settled {
+            changed: settled.changed,
+            loops: settled.loops,
+            faulted: settled.faulted,
+            ignored,
+        })
     }
 }

@@ -6,8 +6,10 @@ mod cells;
 mod engine;
 mod equations;
 mod findings;
+pub mod ignored;
 mod present;
 mod writes;
 
 pub use engine::{Engine, Settled};
+pub use ignored::Ignored;
 pub use writes::Writes;

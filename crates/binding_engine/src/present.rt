@@ -88,6 +88,22 @@ impl<'a> Present<'a> {
     }
 }
 
+impl<'a> Present<'a> {
+    /// The objects while nobody settles them: each place has its value.
+    pub(crate) fn at_rest(alloc: Global, objects: &'a Objects) -> Present<'a>
+        ensures objects { result.objects.now ≡ objects.now }
+        ensures cells { result.cells ≡ [] }
+    {
+        Present {
+            alloc,
+            objects,
+            places: Vec::new(alloc),
+            cells: Cells::new(alloc),
+            evaluations: 0,
+        }
+    }
+}
+
 impl Reader for Present<'_> {
     ghost means = { λ present. meanings (shape_of present.objects.now) (λ p. value_of (at (present.objects.now, present.cells) p)) };
 

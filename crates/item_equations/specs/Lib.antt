@@ -8,3 +8,4 @@ pub mod Lines
 pub mod Records
 pub mod Children
 pub mod Native
+pub mod Ignored

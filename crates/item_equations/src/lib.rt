@@ -5,6 +5,7 @@
 
 pub mod axis;
 mod children;
+pub mod ignored;
 mod lines;
 pub mod native;
 mod reading;
@@ -16,6 +17,7 @@ pub mod ties;
 pub mod view;
 
 pub use axis::Axis;
+pub use ignored::{Neglect, is_anchor, neglect_of};
 pub use native::{Native, evaluate, native_of};
 pub use stop::Stop;
 pub use ties::{Kin, Spot, Tie, tie_of};
