@@ -1,4 +1,4 @@
-// The panel of a room's thermostat. All of it parses; borders and mouse areas don't run yet,
+// The panel of a room's thermostat. All of it is lawful; mouse areas don't run yet,
 // so the program says where the first thing stands that it cannot run.
 import QtQuick 2.15
 

@@ -1,5 +1,5 @@
 -- What the items of a store are painted as.
-use Rattle.std.specs.Prelude.{ℕ, ℤ, pos, int_lt, Bool, false, ◌&&◌, ◌||◌, ◌==◌, if◌then◌else◌, Option, Some, None, List, map, filter, count_by, slice_index_or}
+use Rattle.std.specs.Prelude.{ℕ, ℤ, pos, int_lt, Bool, false, ◌||◌, ◌==◌, if◌then◌else◌, Option, Some, None, List, map, filter, count_by, slice_index_or}
 use Rattle.item_geometry.specs.PaintOrder.{painting_order}
 use Rattle.item_geometry.specs.Rectangle.{painted}
 use Rattle.item_geometry.specs.declared.parts.Rects.{Rects}
@@ -7,13 +7,13 @@ use Rattle.item_geometry.specs.declared.parts.Rects.TheVariants.{Zero}
 use Rattle.type_table.specs.Slots.{is_item}
 use Rattle.type_table.specs.declared.built_in.BuiltIn.{BuiltIn}
 use Rattle.type_table.specs.declared.built_in.BuiltIn.TheVariants as built_in
-use Rattle.type_table.specs.declared.item_slots.TheConstants.{PARENT, X, Y, Z, WIDTH, HEIGHT, VISIBLE, CLIP}
+use Rattle.type_table.specs.declared.item_slots.TheConstants.{X, Y, Z, WIDTH, HEIGHT, VISIBLE, CLIP}
 use Rattle.qml_ast.specs.declared.place.Place.{Place}
 use Rattle.qml_ast.specs.declared.place.Side.TheVariants.{Shown}
 use Rattle.qml_ast.specs.declared.value.Value.{Value}
 use Rattle.qml_ast.specs.declared.value.Value.TheVariants as value
 use Rattle.object_tree.specs.declared.instance.Instance.{Instance}
-use Rattle.object_tree.specs.Reading.{instance_at, value_at, is_given_at}
+use Rattle.object_tree.specs.Reading.{instance_at, item_parent_at, value_at, is_given_at}
 use Rattle.object_tree.specs.Store.{Store}
 use Rattle.scene.specs.declared.paint.Paint.{Paint}
 use Rattle.item_paint.specs.declared.rectangle_slots.TheConstants.{COLOR, BORDER_WIDTH, BORDER_COLOR}
@@ -37,11 +37,6 @@ abbrev pub color_of : Option Value → ℕ
 color_of (Some (value.Color argb)) = argb
 color_of _ = 0
 
--- the object that is referred to, of which 0 is none
-abbrev pub object_of : Option Value → ℕ
-object_of (Some (value.Obj serial)) = serial
-object_of _ = 0
-
 -- the number, the truth value or the colour that a slot shows
 abbrev pub shown_int : Store → ℕ → ℕ → ℤ
 shown_int store serial slot = int_of (shown_value store serial slot)
@@ -53,14 +48,9 @@ abbrev pub shown_color : Store → ℕ → ℕ → ℕ
 shown_color store serial slot = color_of (shown_value store serial slot)
 
 -- ---- children
--- the object is an item
-abbrev pub stands_on_item : Option Instance → Bool
-stands_on_item None = false
-stands_on_item (Some i) = is_item i.built_in
-
--- an item that stands in this one: it has it as its `parent`
+-- an item that stands in this one as a visual child
 abbrev pub is_in : Store → ℕ → ℕ → Bool
-is_in store parent serial = stands_on_item (instance_at serial store) && object_of (shown_value store serial PARENT) == parent
+is_in store parent serial = elim (item_parent_at serial store) [ None ↦ false | Some item ↦ item == parent ]
 
 -- the items that stand in an item, in the order in which they were made, of those that it owns
 abbrev pub items_in : Store → ℕ → List ℕ → List ℕ

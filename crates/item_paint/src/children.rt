@@ -1,14 +1,12 @@
 ghost use Rattle.std.specs.Prelude.{◌≡◌, IfOk, map, slice_index_or};
-ghost use Rattle.item_paint.specs.Items.{stands_on_item, is_in, items_in, z_of, in_order, count_under};
-ghost use Rattle.object_tree.specs.Reading.{instance_at};
+ghost use Rattle.item_paint.specs.Items.{is_in, items_in, z_of, in_order, count_under};
 
-use crate::values::{shown_int, shown_object};
+use crate::values::shown_int;
 use item_geometry::paint_order;
 use object_tree::Objects;
 use scene::Children;
 use std::alloc::{AllocError, Global};
-use type_table::is_item;
-use type_table::item_slots::{PARENT, Z};
+use type_table::item_slots::Z;
 
 /// The items in an item, in the order of painting.
 #[derive(Drop)]
@@ -18,21 +16,14 @@ pub(crate) struct Siblings {
     pub(crate) under: usize,
 }
 
-/// Whether the object is an item.
-fn stands_on_item(objects: &Objects, serial: u64) -> bool
-    ensures { result ≡ stands_on_item (instance_at serial objects.now) }
-{
-    match objects.type_of(serial) {
-        Some(built_in) => is_item(built_in),
-        None => false,
-    }
-}
-
-/// Whether an object is an item that stands in another one.
+/// Whether an object is an item that stands in another one as a visual child.
 fn is_in(objects: &Objects, parent: u64, serial: u64) -> bool
     ensures { result ≡ is_in objects.now parent serial }
 {
-    stands_on_item(objects, serial) && shown_object(objects, serial, PARENT) == parent
+    match objects.item_parent(serial) {
+        Some(item) => item == parent,
+        None => false,
+    }
 }
 
 /// The items that stand in an item, of those that it owns.

@@ -1,6 +1,6 @@
 ghost use Rattle.std.specs.Prelude.{◌≡◌};
 ghost use Rattle.object_tree.specs.Reading.{is_given_at};
-ghost use Rattle.item_paint.specs.Items.{shown_place, shown_value, shown_int, shown_bool, shown_color, object_of};
+ghost use Rattle.item_paint.specs.Items.{shown_place, shown_int, shown_bool, shown_color};
 
 use object_tree::Objects;
 use qml_ast::{Place, Side, Value};
@@ -42,16 +42,6 @@ pub(crate) fn shown_color(objects: &Objects, serial: u64, slot: u32) -> u32
 {
     match objects.value(shown_place(serial, slot)) {
         Some(Value::Color(argb)) => *argb,
-        _ => 0,
-    }
-}
-
-/// The serial of the object that a slot shows, or 0 where it shows none.
-pub(crate) fn shown_object(objects: &Objects, serial: u64, slot: u32) -> u64
-    ensures { result ≡ object_of (shown_value objects.now serial slot) }
-{
-    match objects.value(shown_place(serial, slot)) {
-        Some(Value::Obj(object)) => *object,
         _ => 0,
     }
 }

@@ -1,14 +1,13 @@
 -- The places that are kept are those that were given.
-use Rattle.std.proofs.Common.{◌≡◌, ℕ, Bool, true, false, List, [], ◌∷◌, ◌++◌, refl, ap, sym, ◌∙◌, arith}
-use Rattle.std.specs.Prelude.{◌==◌, ◌&&◌, ◌||◌, fold, if◌then◌else◌}
-use Rattle.std.specs.List.{list_any}
+use Rattle.std.proofs.Common.{◌≡◌, ℕ, Bool, true, false, List, [], ◌∷◌, refl, ap, sym, ◌∙◌, arith}
+use Rattle.std.specs.Prelude.{◌==◌, ◌&&◌, ◌||◌, fold}
 use Rattle.std.proofs.lemmas.Bool.Decides.{nat_tests}
 use Rattle.std.proofs.lemmas.List.Folds.{list_any-append}
 use Rattle.qml_ast.specs.declared.place.Place.{Place}
 use Rattle.qml_ast.specs.declared.place.Side.{Side}
 use Rattle.qml_ast.specs.declared.place.Side.TheVariants.{Set, Shown}
 use Rattle.expr_eval.specs.Traces.{are_same, are_same_sides, noted}
-use Rattle.object_tree.specs.Ignored.{is_among, each_once, KeptAreIgnored}
+use Rattle.object_tree.specs.Ignored.{is_among, KeptAreIgnored}
 use Rattle.object_tree.specs.Store.{Store}
 
 -- ---- places that are alike are one

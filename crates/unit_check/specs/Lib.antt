@@ -1,3 +1,1 @@
-pub mod Bases
-pub mod Inits
 pub mod Unrun

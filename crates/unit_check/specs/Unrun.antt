@@ -1,18 +1,11 @@
 -- What isn't run yet of lawful documents.
-use Rattle.std.specs.Prelude.{ℕ, ◌+◌, Bool, true, false, ◌&&◌, ◌||◌, ◌==◌, nat_lt, Option, Some, None, List, [], ◌∷◌, ◌++◌, flat_map, fold, if◌then◌else◌}
-use Rattle.std.specs.List.{slice_get}
+use Rattle.std.specs.Prelude.{ℕ, ◌+◌, Bool, true, false, ◌&&◌, ◌||◌, ◌==◌, nat_lt, Option, Some, None, List, [], ◌∷◌, flat_map, fold, if◌then◌else◌}
 use Rattle.qml_ast.specs.declared.span.Span.{Span}
 use Rattle.qml_types.specs.declared.component.Base.{Base}
 use Rattle.qml_types.specs.declared.component.Base.TheVariants as base
 use Rattle.qml_types.specs.declared.component.ComponentType.{ComponentType, out-ComponentType}
-use Rattle.qml_types.specs.declared.component.InitDecl.{InitDecl}
 use Rattle.qml_types.specs.declared.component.ObjectDecl.{ObjectDecl, out-ObjectDecl}
-use Rattle.qml_types.specs.declared.component.Role.{Role}
-use Rattle.qml_types.specs.declared.component.Role.TheVariants as role
-use Rattle.type_table.specs.declared.built_in.BuiltIn.{BuiltIn}
 use Rattle.type_table.specs.declared.built_in.BuiltIn.TheVariants as built_in
-use Rattle.unit_check.specs.Bases.{kind_of}
-use Rattle.unit_check.specs.Inits.{is_built_in_path, is_run}
 use Rattle.unit_check.specs.declared.unrun.Unrun.{Unrun}
 
 -- ---- places
@@ -38,38 +31,14 @@ is_run_type (base.BuiltIn built_in.Rectangle) = true
 is_run_type (base.BuiltIn _) = false
 is_run_type _ = true
 
--- an object that stands so in one that stands on this built-in type is run: it is no value of a built-in slot
-abbrev pub is_run_role : BuiltIn → Role → Bool
-is_run_role t (role.Value path) = if is_built_in_path t path then false else true
-is_run_role t _ = true
-
--- an object is run where it stands among a component's objects
-abbrev pub is_run_value : Option ObjectDecl → Role → Bool
-is_run_value None role = true
-is_run_value (Some owner) role = is_run_role (kind_of owner) role
-
-abbrev pub owner_in : List ObjectDecl → Option ℕ → Option ObjectDecl
-owner_in objects None = None
-owner_in objects (Some k) = slice_get objects k
-
--- its type's name, where that, or the object as a value, isn't run
-unfoldable pub type_places : List ObjectDecl → ObjectDecl → List Span
-type_places objects object =
-    unless (is_run_type (out-ObjectDecl object).base && is_run_value (owner_in objects (out-ObjectDecl object).owner) (out-ObjectDecl object).role)
-    (out-ObjectDecl object).span
-
--- an initialiser that isn't run of an object that stands on this built-in type
-unfoldable pub init_place : BuiltIn → InitDecl → List Span
-init_place t init = unless (is_run t init) init.span
-
--- what isn't run of an object that stands among these
-unfoldable pub object_places : List ObjectDecl → ObjectDecl → List Span
-object_places objects object = type_places objects object ++ flat_map (init_place (kind_of object)) (out-ObjectDecl object).inits
+-- its type's name, where that isn't run
+unfoldable pub object_place : ObjectDecl → List Span
+object_place object = unless (is_run_type (out-ObjectDecl object).base) (out-ObjectDecl object).span
 
 -- ---- documents
--- what isn't run of a document
+-- the type names of a document that aren't run
 unfoldable pub unrun_places : ComponentType → List Span
-unrun_places component = flat_map (object_places (out-ComponentType component).objects) (out-ComponentType component).objects
+unrun_places component = flat_map object_place (out-ComponentType component).objects
 
 -- the first place of a document that isn't run
 unfoldable pub first_place : ComponentType → Option Span

@@ -1,8 +1,6 @@
 //! What isn't run yet of documents that are lawful.
 #![tactic(auto)]
 
-mod bases;
-mod inits;
 pub mod unrun;
 
 pub use unrun::{Unrun, first_unrun};
