@@ -77,7 +77,8 @@ def run_page(program, folder, words, seconds, take):
     command = [program, "Main.qml", "script.txt", *words]
     late, fault = threading.Event(), ""
     with tempfile.TemporaryFile() as notes:
-        with subprocess.Popen(command, cwd=folder, stdin=subprocess.DEVNULL, stdout=subprocess.PIPE, stderr=notes) as process:
+        streams = dict(stdin=subprocess.DEVNULL, stdout=subprocess.PIPE, stderr=notes)
+        with subprocess.Popen(command, cwd=folder, **streams) as process:
             timer = threading.Timer(seconds, lambda: (late.set(), process.kill()))
             timer.start()
             try:
@@ -85,9 +86,10 @@ def run_page(program, folder, words, seconds, take):
                     take(picture)
             except PictureError as error:
                 fault = f"standard output has no frames: {error}"
+            finally:
                 process.stdout.close()
-            status = process.wait()
-            timer.cancel()
+                status = process.wait()
+                timer.cancel()
         notes.seek(0)
         if late.is_set():
             fault = f"it did not end within {seconds:g} s"

@@ -4,6 +4,7 @@ A Picture is opaque, with 8 bits a channel. Rows and columns count from 0, from 
 of a document do. PNG files are written as RGB. They are read with every filter, as grey, RGB or with a palette, and
 with an opacity where it is full everywhere; not those with 16 bits a channel, nor interlaced ones.
 """
+import re
 import struct
 import zlib
 from typing import NamedTuple
@@ -41,10 +42,11 @@ def p6_images(stream):
     number = 0
     while magic := stream.readline(80):
         number += 1
-        size, deepest = stream.readline(80), stream.readline(80)
-        if magic != b"P6\n" or deepest != b"255\n" or len(size.split()) != 2 or not size.replace(b" ", b"").strip().isdigit():
-            raise PictureError(f"image {number} begins with {(magic + size + deepest)[:40]!r}, as no P6 image does")
-        width, height = map(int, size.split())
+        head = magic + stream.readline(80) + stream.readline(80)
+        match = re.fullmatch(rb"P6\n(\d+) (\d+)\n255\n", head)
+        if not match:
+            raise PictureError(f"image {number} begins with {head[:40]!r}, as no P6 image does")
+        width, height = map(int, match.groups())
         pixels = stream.read(3 * width * height)
         if len(pixels) < 3 * width * height:
             raise PictureError(f"image {number} ends after {len(pixels)} of {3 * width * height} bytes of pixels")
@@ -60,7 +62,8 @@ def png_of_picture(picture):
         rows.append(b"\2" + added)
         above = row
     head = struct.pack(">IIBBBBB", picture.width, picture.height, 8, RGB, 0, 0, 0)
-    return SIGNATURE + _chunk(b"IHDR", head) + _chunk(b"IDAT", zlib.compress(b"".join(rows), 9)) + _chunk(b"IEND", b"")
+    data = zlib.compress(b"".join(rows), 9)
+    return SIGNATURE + _chunk(b"IHDR", head) + _chunk(b"IDAT", data) + _chunk(b"IEND", b"")
 
 
 def _chunk(kind, body):
@@ -74,7 +77,8 @@ def picture_of_png(data):
         raise PictureError("the PNG file has no head")
     width, height, depth, kind, _, _, interlaced = struct.unpack(">IIBBBBB", parts[b"IHDR"])
     if kind not in CHANNELS or depth not in ((1, 2, 4, 8) if kind in (GREY, PALETTE) else (8,)) or interlaced:
-        raise PictureError(f"a PNG of colour type {kind} with {depth} bits{', interlaced,' if interlaced else ''} is not read")
+        form = f"colour type {kind}, {depth} bits{', interlaced' if interlaced else ''}"
+        raise PictureError(f"a PNG of this form is not read: {form}")
     if not width or not height:
         raise PictureError("the PNG file has no pixels")
     try:
@@ -153,15 +157,16 @@ def _opaque_pixels(channels, width, kind, depth, parts):
     elif b"tRNS" in parts:
         raise PictureError("a PNG with a transparent colour is not read")
     elif kind in (GREY, GREY_OPACITY):
-        greys = channels[:: CHANNELS[kind]].translate(bytes(value * 255 // ((1 << depth) - 1) & 255 for value in range(256)))
-        planes = [greys] * 3
+        most = (1 << depth) - 1
+        greys = bytes(min(value, most) * 255 // most for value in range(256))
+        planes = [channels[:: CHANNELS[kind]].translate(greys)] * 3
     else:
         planes = [channels[plane :: CHANNELS[kind]] for plane in range(3)]
     if kind in (GREY_OPACITY, RGB_OPACITY):
         opacities = channels[CHANNELS[kind] - 1 :: CHANNELS[kind]]
-    for place, opacity in enumerate(opacities if opacities.count(255) < len(opacities) else b""):
-        if opacity != 255:
-            raise PictureError(f"the PNG file is not opaque at row {place // width}, column {place % width}")
+    if opacities.count(255) < len(opacities):
+        place = next(place for place, opacity in enumerate(opacities) if opacity != 255)
+        raise PictureError(f"the PNG file is not opaque at row {place // width}, column {place % width}")
     pixels = bytearray(3 * len(planes[0]))
     pixels[0::3], pixels[1::3], pixels[2::3] = planes
     return bytes(pixels)
