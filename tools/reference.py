@@ -6,8 +6,9 @@ usage: tools/reference.py MAIN SCRIPT > frames.ppm 2> notes
 It shares nothing with the program: documents are read by a small parser of their own into dictionaries and tuples,
 objects are made of them with all that their types bring, slots are brought up to date by plain recursion (what items
 show of their geometry by the equations of reference_geometry.py), handlers run as functions that call each other, and
-each rectangle is painted over the pixels row by row. Notes go to standard error as the program writes them. A document that is refused is told as the program tells it, with exit status 4; the grammar's
-faults are those of reference_parser.py. A script of another form ends it with an error.
+each rectangle is painted over the pixels row by row. Notes go to standard error as the program writes them. A document
+that is refused is told as the program tells it, with exit status 4; the grammar's faults are those of
+reference_parser.py. A script of another form ends it with an error.
 """
 import bisect
 import re
