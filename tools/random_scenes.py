@@ -17,10 +17,11 @@ HUGE = ["2147483647", "2147483640", "(-2147483647 - 1)", "-2147483640", "1073741
 
 
 class Thing:
-    """An object of a document: its name there, what stands above it, and the numbers and flags that it has."""
+    """An object of a document: its name there, what stands above it, the property whose value it is, and its numbers."""
 
-    def __init__(self, name, type_name, above):
+    def __init__(self, name, type_name, above, kept_as=None):
         self.name, self.type, self.above, self.children = name, type_name, above, []
+        self.kept_as = kept_as
         self.numbers = GEOMETRY + (["level"] if type_name in ("A", "B") else [])
 
 
@@ -43,15 +44,16 @@ class Scene:
 
     def documents(self):
         """The texts by the names of files."""
-        found = {f"{name}.qml": self.document(self.source.randint(1, 3), is_type=True) for name in "BA"}
-        return found | {"Main.qml": self.document(self.source.randint(3, 11))}
+        found = {f"{name}.qml": self.document(name, self.source.randint(1, 3)) for name in "BA"}
+        return found | {"Main.qml": self.document("Main", self.source.randint(3, 11))}
 
-    def document(self, count, is_type=False):
-        types = ["Item", "Rectangle", "Rectangle"]
+    def document(self, name, count):
+        types, is_type = ["Item", "Rectangle", "Rectangle"], name != "Main"
         self.things = [Thing("top", self.pick(types), None)]
         for number in range(count - 1):
             above = self.pick(self.things[-3:] if self.chance(0.5) else self.things)
-            thing = Thing(f"o{number}", self.pick(types if is_type else TYPES), above)
+            kept_as = f"{name.lower()}{number}" if self.chance(0.05) else None
+            thing = Thing(f"o{number}", self.pick(types if is_type else TYPES), above, kept_as)
             above.children.append(thing)
             self.things.append(thing)
         self.has_level = is_type
@@ -59,7 +61,7 @@ class Scene:
 
     # ---- objects, line by line
     def object(self, thing, indent):
-        yield f"{indent}{thing.type} {{"
+        yield f"{indent}{f'property Item {thing.kept_as}: ' if thing.kept_as else ''}{thing.type} {{"
         for line in self.members(thing):
             yield f"{indent}    {line}"
         for child in thing.children:
