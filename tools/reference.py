@@ -620,8 +620,10 @@ class Judge:
         """The places of an object and what stands in it that do not run yet."""
         base = self.types.known[item["type"]]["base"]
         places = [] if item["type"] not in self.types.built_in or base in SLOTS else [item["at"]]
-        for _, inner in item["members"]:
-            places += self.unrun_in(inner)
+        slots = self.with_declared(item)["slots"]
+        for path, inner in item["members"]:
+            is_wrapped = slots.get(path) == "Component" and self.types.known[inner["type"]]["base"] != "Component"
+            places += [inner["at"]] if is_wrapped else self.unrun_in(inner)
         return places
 
 
