@@ -17,7 +17,7 @@ HUGE = ["2147483647", "2147483640", "(-2147483647 - 1)", "-2147483640", "1073741
 
 
 class Thing:
-    """An object of a document: its name there, what stands above it, the property whose value it is, and its numbers."""
+    """An object of a document: its name there, what stands above it, the property whose value it is, its numbers."""
 
     def __init__(self, name, type_name, above, kept_as=None):
         self.name, self.type, self.above, self.children = name, type_name, above, []
