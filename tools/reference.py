@@ -4,10 +4,11 @@
 usage: tools/reference.py MAIN SCRIPT > frames.ppm 2> notes
 
 It shares nothing with the program: documents are read by a small parser of their own into dictionaries and tuples,
-objects are made of them with all that their types bring, slots are brought up to date by plain recursion, handlers
-run as functions that call each other, and the pixels are painted one by one. Notes go to standard error as the
-program writes them. A document that is refused is told as the program tells it, with exit status 4; the grammar's
-faults are those of reference_parser.py. A script of another form ends it with an error.
+objects are made of them with all that their types bring, slots are brought up to date by plain recursion (what items
+show of their geometry by the equations of reference_geometry.py), handlers run as functions that call each other, and
+each rectangle is painted over the pixels row by row. Notes go to standard error as the program writes them. A document
+that is refused is told as the program tells it, with exit status 4; the grammar's faults are those of
+reference_parser.py. A script of another form ends it with an error.
 """
 import bisect
 import re
@@ -15,7 +16,9 @@ import sys
 import threading
 from typing import NamedTuple
 
+import reference_geometry
 import reference_parser
+from reference_geometry import SIDED, Line
 
 WIDTH, HEIGHT = 640, 480
 MOST_OBJECTS, MOST_LEVELS = 99_999, 256
@@ -357,13 +360,6 @@ class Color(int):
     """A colour, as 0xAARRGGBB."""
 
 
-class Line(NamedTuple):
-    """A line of an item."""
-
-    of: object
-    edge: str
-
-
 class Sense(NamedTuple):
     """What a name stands for that is no value: a global, one of its functions, a group, a signal or a method."""
 
@@ -624,24 +620,11 @@ class Judge:
         """The places of an object and what stands in it that do not run yet."""
         base = self.types.known[item["type"]]["base"]
         places = [] if item["type"] not in self.types.built_in or base in SLOTS else [item["at"]]
-        for what, at, *rest in item["told"]:
-            if what == "child":
-                places += self.unrun_in(rest[0])
-            elif what == "init":
-                path, literal, value = rest
-                is_built_in = path in SLOTS.get(base, {})
-                if value:
-                    places += ([value["at"]] if is_built_in else []) + self.unrun_in(value)
-                elif is_built_in and (path not in RUN or self.is_unrun_color(path, literal)):
-                    places.append(at)
+        slots = self.with_declared(item)["slots"]
+        for path, inner in item["members"]:
+            is_wrapped = slots.get(path) == "Component" and self.types.known[inner["type"]]["base"] != "Component"
+            places += [inner["at"]] if is_wrapped else self.unrun_in(inner)
         return places
-
-    @staticmethod
-    def is_unrun_color(path, literal):
-        if path != "color" or not literal or not isinstance(literal[0], str):
-            return False
-        color = color_of(literal[0])
-        return color is None or color >> 24 != 255
 
 
 class Unit:
@@ -723,7 +706,7 @@ class Node:
     def __init__(self, kind, owner, serial):
         self.kind, self.owner, self.serial, self.children = kind, owner, serial, []
         self.kinds, self.bound, self.values, self.settled = dict(SLOTS[kind]), {}, {}, {}
-        self.written, self.read_only, self.signals, self.methods, self.handlers = set(), set(), {}, {}, []
+        self.given, self.read_only, self.signals, self.methods, self.handlers = set(), set(), {}, {}, []
         self.type_at = None
         for name in self.kinds:
             self.begin(name)
@@ -760,7 +743,6 @@ class Node:
 
 
 EDGES = ("left", "right", "top", "bottom", "horizontalCenter", "verticalCenter")
-SIDED = ("x", "y", "width", "height", "implicitWidth", "implicitHeight", "visible", "enabled")
 MARGINS = ("margins", "leftMargin", "rightMargin", "topMargin", "bottomMargin")
 MARGINS += ("horizontalCenterOffset", "verticalCenterOffset")
 SLOTS = {"QtObject": {"objectName": "string"}}
@@ -771,7 +753,6 @@ SLOTS["Item"] |= {f"anchors.{edge}": "line" for edge in EDGES} | {"anchors.fill"
 SLOTS["Item"] |= {f"anchors.{margin}": "int" for margin in MARGINS}
 SLOTS["Item"] |= {f"childrenRect.{name}": "int" for name in ("x", "y", "width", "height")}
 SLOTS["Rectangle"] = SLOTS["Item"] | {"color": "color", "border.width": "int", "border.color": "color"}
-RUN = ("x", "y", "width", "height", "color")
 
 GLOBALS = ("Qt", "Math", "console", "Loader")
 FUNCTIONS = dict(min=2, max=2, abs=1, floor=1, ceil=1, round=1)
@@ -787,7 +768,7 @@ class Stage:
         self.content = Node("Item", None, 1)
         for name, size in (("width", WIDTH), ("height", HEIGHT)):
             self.content.values[name, "set"] = self.content.values[name, "shown"] = size
-        self.state, self.suspended, self.marks = {}, set(), {}
+        self.state, self.suspended, self.marks, self.ignored = {}, set(), {}, set()
         self.loops, self.faults = [], []
         self.left = MOST_STATEMENTS
 
@@ -826,9 +807,8 @@ class Stage:
         node.methods |= {name: (params, body, outer) for name, (params, body) in item["methods"].items()}
         node.handlers += [(path, body, outer, at) for path, body, at in item["handlers"]]
         for path, given in item["set"].items():
-            if path not in node.kinds or (node.kinds[path] == SLOTS[node.kind].get(path) and path not in RUN):
-                raise ValueError(f"{path} is not run")
             node.begin(path)
+            node.given.add(path)
             node.bound[path] = given and (given[0], outer, given[1])
         for path, member in item["members"]:
             made = self.make(member, node, outer)
@@ -848,7 +828,7 @@ class Stage:
         for node in self.nodes:
             for name in node.kinds:
                 for side in ("set", "shown") if node.has_sides(name) else ("shown",):
-                    if side == "shown" and node.has_sides(name) or node.bound.get(name):
+                    if self.is_native(node, name, side) or node.bound.get(name):
                         self.visit(node, name, side)
                         touched.add((node, name))
         order = lambda place: (place[0].serial, list(place[0].kinds).index(place[1]), place[2])
@@ -856,6 +836,7 @@ class Stage:
             self.note_at(self.origin(place), f'Binding loop detected for property "{place[1]}"')
         for place in sorted(self.faults, key=order):
             self.note_at(self.origin(place), f"evaluation fault: {self.marks[place]}")
+        self.note_ignored()
         changed = []
         for node, name in touched:
             value = node.values[name, "shown"]
@@ -864,10 +845,23 @@ class Stage:
                 changed.append((node, name, "shown"))
         return sorted(changed, key=order)
 
+    def note_ignored(self):
+        """The anchors that count for nothing are noted, but for those that did so before."""
+        before, self.ignored = self.ignored, set()
+        for node in self.nodes:
+            for name, what in reference_geometry.ignored(node):
+                self.ignored.add((node, name))
+                if (node, name) not in before:
+                    self.note_at(node.type_at, f"{what}: {name}")
+
+    @staticmethod
+    def is_native(node, name, side):
+        return side == "shown" and reference_geometry.has_equation(node, name)
+
     def origin(self, place):
         """Where notes on a place stand."""
-        node, name, side = place
-        if side == "shown" and node.has_sides(name):
+        node, name, _ = place
+        if self.is_native(*place):
             return node.type_at
         _, context, at = node.bound[name]
         return context.file, at
@@ -875,7 +869,7 @@ class Stage:
     def visit(self, node, name, side):
         """The value of a place, brought up to date."""
         place = node, name, side
-        native = side == "shown" and node.has_sides(name)
+        native = self.is_native(*place)
         if node is self.content or (not native and node.bound.get(name) is None) or self.state.get(place) == "done":
             return node.values[name, side]
         if place in self.suspended:
@@ -901,7 +895,9 @@ class Stage:
         node, name, _ = place
         evaluation = Evaluation(place)
         if native:
-            return self.read(evaluation, node, name, "set")
+            ask = lambda *asked: self.read(evaluation, *asked)
+            value = reference_geometry.Equations(node, ask).shown(name)
+            return value if isinstance(value, bool) else fitting(value)
         expression, context, _ = node.bound[name]
         return taken(node.kinds[name], self.value(evaluation, expression, Scope(node, context, {}, 0)))
 
@@ -1059,7 +1055,7 @@ class Stage:
         """A write takes the place of what the slot was bound to; all is settled, and what has changed is handled."""
         side = "set" if node.has_sides(name) else "shown"
         node.values[name, side] = value
-        node.written.add(name)
+        node.given.add(name)
         node.bound.pop(name, None)
         self.marks.pop((node, name, side), None)
         self.suspended -= {place for place in self.suspended if place[0] is node}
@@ -1250,7 +1246,7 @@ def rectangles(node):
     edge, edge_color = node.values["border.width", "shown"], node.values["border.color", "shown"]
     if width <= 0 or height <= 0:
         return []
-    if edge <= 0 or not node.written & {"border.width", "border.color"}:
+    if edge <= 0 or not node.given & {"border.width", "border.color"}:
         return [(0, 0, width, height, color)]
     if 2 * edge >= min(width, height):
         return [(0, 0, width, height, edge_color)]
@@ -1264,11 +1260,12 @@ def cover(pixels, rectangle, left, top, window):
     """A rectangle's colour over the pixels that it has in the window: its edges left, top, right and bottom."""
     x, y, width, height, color = rectangle
     alpha, channels = color >> 24, [color >> shift & 255 for shift in (16, 8, 0)]
-    for row in range(max(top + y, window[1]), min(top + y + height, window[3])):
-        for column in range(max(left + x, window[0]), min(left + x + width, window[2])):
-            at = 3 * (row * WIDTH + column)
-            for k in range(3):
-                pixels[at + k] = (channels[k] * alpha + pixels[at + k] * (255 - alpha) + 127) // 255
+    blends = [bytes((channel * alpha + d * (255 - alpha) + 127) // 255 for d in range(256)) for channel in channels]
+    begin, end = max(left + x, window[0]), min(left + x + width, window[2])
+    for row in range(max(top + y, window[1]), min(top + y + height, window[3])) if begin < end else []:
+        for k in range(3):
+            part = slice(3 * (row * WIDTH + begin) + k, 3 * (row * WIDTH + end) + k, 3)
+            pixels[part] = pixels[part].translate(blends[k])
 
 
 def paint(pixels, node, left, top, window):

@@ -1,5 +1,5 @@
-// The panel of a room's thermostat. All of it is lawful; mouse areas don't run yet,
-// so the program says where the first thing stands that it cannot run.
+// The panel of a room's thermostat. All of it parses, and all but its mouse area would run;
+// these don't run yet, so the program says where the first one stands.
 import QtQuick 2.15
 
 Rectangle {

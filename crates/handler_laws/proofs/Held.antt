@@ -4,7 +4,8 @@ use Rattle.qml_ast.specs.declared.place.Place.{Place}
 use Rattle.qml_ast.specs.declared.value.Value.{Value}
 use Rattle.binding_engine.proofs.Holding.{equations_hold}
 use Rattle.binding_engine.specs.Holding.{EquationsHold}
-use Rattle.binding_engine.specs.Settling.{after_settle, resumed_by}
+use Rattle.binding_engine.specs.Ignored.{ignored_in, places_ignored}
+use Rattle.binding_engine.specs.Settling.{after_settle, resumed_by, settled_store}
 use Rattle.object_tree.specs.Store.{Store}
 use Rattle.signals.specs.Calls.{react_ran, write_ran, emit_ran, complete_ran, exec_ran}
 use Rattle.signals.specs.declared.world.HandlerRef.{HandlerRef}
@@ -12,7 +13,9 @@ use Rattle.signals.specs.declared.world.World.{World}
 use Rattle.handler_laws.proofs.Kept as kept
 
 settle_holds : (writes : List Place) (store : Store) → EquationsHold (after_settle writes store)
-settle_holds writes store = equations_hold (resumed_by writes store)
+settle_holds writes store =
+    let settled = settled_store (resumed_by writes store) in
+    equations_hold (resumed_by writes store) (places_ignored (ignored_in settled))
 
 pub reacts : (writes : List Place) (w : World) → EquationsHold ((react_ran writes w).1).objects
 reacts = kept.reacts EquationsHold settle_holds

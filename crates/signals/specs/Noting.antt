@@ -1,18 +1,20 @@
 -- What a settle does to the world, and what is noted of it.
-use Rattle.std.specs.Prelude.{ℕ, List, [], ◌++◌, flat_map, Option, None, Some, unwrap_or}
+use Rattle.std.specs.Prelude.{ℕ, Bool, true, false, List, [], ◌++◌, flat_map, Option, None, Some, unwrap_or}
 use Rattle.qml_ast.specs.declared.eval_fault.EvalFault.{EvalFault}
 use Rattle.qml_ast.specs.declared.place.Place.{Place}
 use Rattle.qml_ast.specs.declared.span.Span.{Span}
 use Rattle.qml_ast.specs.declared.value.Value.{Value}
 use Rattle.qml_types.specs.declared.component.ComponentType.{out-ComponentType}
-use Rattle.object_tree.specs.Origins.{Origin, origin_of, path_at}
+use Rattle.object_tree.specs.Origins.{Origin, origin_of, type_origin_at, path_at}
 use Rattle.object_tree.specs.Store.{Store}
 use Rattle.object_tree.specs.Writing.{written}
 use Rattle.binding_engine.specs.Equations.{equated}
 use Rattle.binding_engine.specs.Findings.{changed_in, faulted_in}
 use Rattle.binding_engine.specs.Holding.{mark_in, looped_in}
+use Rattle.binding_engine.specs.Ignored.{newly_ignored}
+use Rattle.binding_engine.specs.declared.ignored.Ignored.{Ignored}
 use Rattle.binding_engine.specs.Settling.{resumed_by, settled_store, after_settle}
-use Rattle.script_text.specs.Notes.{loop_text, fault_text, limit_text}
+use Rattle.script_text.specs.Notes.{loop_text, fault_text, target_text, center_text, limit_text}
 use Rattle.script_text.specs.declared.note.LimitKind.{LimitKind}
 use Rattle.signals.specs.Events.{event_at}
 use Rattle.signals.specs.declared.job.Site.{Site}
@@ -29,6 +31,15 @@ loop_note store place = note_at (origin_of place store) (λ file at. loop_text f
 abbrev pub fault_note : Store → Place × EvalFault → List ℕ
 fault_note store found = note_at (origin_of found.0 store) (λ file at. fault_text file at found.1)
 
+-- an anchor that counts for nothing is noted at the name of the item's type
+abbrev pub ignored_text : Bool → List ℕ → Span → List ℕ → List ℕ
+ignored_text false file at path = target_text file at path
+ignored_text true file at path = center_text file at path
+
+abbrev pub ignored_note : Store → Ignored → List ℕ
+ignored_note store ignored =
+    note_at (type_origin_at ignored.place.serial store) (λ file at. ignored_text ignored.center file at (unwrap_or (path_at ignored.place store) []))
+
 -- ---- of a settle after writes to these places
 -- the places that loops suspended
 unfoldable pub loops_of : List Place → Store → List Place
@@ -42,10 +53,16 @@ faults_of writes store = faulted_in (mark_in (after_settle writes store)) (resum
 unfoldable pub changes_of : List Place → Store → List Place
 changes_of writes store = changed_in (settled_store (resumed_by writes store))
 
--- first the loops and then the faults are noted, each in the order of their places
+-- the anchors that count for nothing and did not do so before
+unfoldable pub ignored_of : List Place → Store → List Ignored
+ignored_of writes store = newly_ignored (settled_store (resumed_by writes store))
+
+-- first the loops are noted, then the faults and then the anchors, each in the order of their places
 abbrev pub settle_notes : List Place → Store → List ℕ
 settle_notes writes store =
-    flat_map (loop_note (after_settle writes store)) (loops_of writes store) ++ flat_map (fault_note (after_settle writes store)) (faults_of writes store)
+    flat_map (loop_note (after_settle writes store)) (loops_of writes store)
+    ++ (flat_map (fault_note (after_settle writes store)) (faults_of writes store)
+    ++ flat_map (ignored_note (after_settle writes store)) (ignored_of writes store))
 
 -- the store is settled, with its notes and events
 unfoldable pub settled_by : List Place → World → World

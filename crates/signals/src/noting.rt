@@ -1,8 +1,9 @@
 ghost use Rattle.std.specs.Prelude.{◌≡◌, ◌++◌, map, flat_map, OnOk};
-ghost use Rattle.signals.specs.Noting.{loop_note, fault_note, file_of, with_fault_note, limited};
+ghost use Rattle.signals.specs.Noting.{loop_note, fault_note, ignored_note, file_of, with_fault_note, limited};
 
 use crate::job::Site;
 use crate::world::World;
+use binding_engine::Ignored;
 use object_tree::Objects;
 use qml_ast::{At, EvalFault, Place};
 use script_text::{LimitKind, Note, Notes};
@@ -58,6 +59,39 @@ pub(crate) fn note_faults(
 {
     for found in faults {
         note_fault(objects, found, notes)?;
+    }
+    Ok(())
+}
+
+// Notes an anchor that counts for nothing, at the name of its item's type.
+fn note_ignored(
+    objects: &Objects,
+    ignored: &Ignored,
+    notes: &mut Notes,
+) -> Result<(), AllocError>
+    ensures { OnOk result (notes.new ≡ notes.old ++ ignored_note objects.now ignored.now) }
+{
+    let Some(at) = objects.type_at(ignored.place.serial) else {
+        return Ok(());
+    };
+    let path = objects.path(ignored.place).unwrap_or("");
+    if ignored.center {
+        notes.line(&Note::Center(at, path))
+    } else {
+        notes.line(&Note::Target(at, path))
+    }
+}
+
+/// Notes the anchors that count for nothing since a settle.
+pub(crate) fn note_all_ignored(
+    objects: &Objects,
+    ignored: &[Ignored],
+    notes: &mut Notes,
+) -> Result<(), AllocError>
+    ensures { OnOk result (notes.new ≡ notes.old ++ flat_map (ignored_note objects.now) ignored.now) }
+{
+    for anchor in ignored {
+        note_ignored(objects, anchor, notes)?;
     }
     Ok(())
 }

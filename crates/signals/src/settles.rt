@@ -3,7 +3,7 @@ ghost use Rattle.signals.specs.Noting.{changes_of, settled_by, with_written};
 ghost use Rattle.object_tree.specs.Writing.{written};
 
 use crate::events::add_events;
-use crate::noting::{note_faults, note_loops};
+use crate::noting::{note_all_ignored, note_faults, note_loops};
 use crate::world::World;
 use binding_engine::Writes;
 use qml_ast::{Place, Value};
@@ -12,7 +12,7 @@ use std::alloc::{AllocError, Global};
 impl World {
     /// Settles the objects after these writes, with the notes and events of that. It gives the places that show
     /// another value than before.
-    #[tactic(auto, unfolding(crate::specs::Noting::settled_by, crate::specs::Noting::loops_of, crate::specs::Noting::faults_of, crate::specs::Noting::changes_of))]
+    #[tactic(auto, unfolding(crate::specs::Noting::settled_by, crate::specs::Noting::loops_of, crate::specs::Noting::faults_of, crate::specs::Noting::ignored_of, crate::specs::Noting::changes_of))]
     pub(crate) fn settle(
         &mut self,
         alloc: Global,
@@ -25,6 +25,11 @@ impl World {
         let settled = self.engine.settle(alloc, &mut self.objects, writes)?;
         note_loops(&self.objects, settled.loops.as_slice(), &mut self.notes)?;
         note_faults(&self.objects, settled.faulted.as_slice(), &mut self.notes)?;
+        note_all_ignored(
+            &self.objects,
+            settled.ignored.as_slice(),
+            &mut self.notes,
+        )?;
         add_events(&self.objects, settled.changed.as_slice(), &mut self.events)?;
         Ok(settled.changed)
     }
