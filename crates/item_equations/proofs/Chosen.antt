@@ -1,11 +1,10 @@
 -- The row of an item is found anchor by anchor.
-use Rattle.std.proofs.Common.{◌≡◌, ℕ, zero, suc, ◌+◌, ◌<◌, refl, ap, arith}
-use Rattle.std.specs.Prelude.{◌-◌, Option, None, Some}
+use Rattle.std.proofs.Common.{◌≡◌, ℕ, zero, suc, ◌<◌, refl, ap, arith}
+use Rattle.std.specs.Prelude.{◌-◌}
 use Rattle.anchors.specs.Walk.{next_of}
-use Rattle.anchors.specs.declared.row.Row.{Row}
 use Rattle.anchors.specs.declared.row.Row.TheVariants.{Free}
 use Rattle.anchors.specs.declared.walk.Found.{Found}
-use Rattle.item_equations.specs.Asking.{gives, bind}
+use Rattle.item_equations.specs.Asking.{gives}
 use Rattle.item_equations.specs.Family.{Family}
 use Rattle.item_equations.specs.Rows.{row_by, row_from}
 use Rattle.item_equations.specs.declared.axis.Axis.{Axis}

@@ -1,8 +1,8 @@
 -- The items in an item are met one after another.
-use Rattle.std.proofs.Common.{◌≡◌, ℕ, zero, suc, ◌+◌, ◌<◌, ◌≤◌, ℤ, List, [], ◌∷◌, length, refl, sym, ap, ◌∙◌, arith}
+use Rattle.std.proofs.Common.{◌≡◌, ℕ, zero, suc, ◌+◌, ◌<◌, ◌≤◌, ℤ, List, [], ◌∷◌, length, refl, ap, ◌∙◌, arith}
 use Rattle.std.specs.Prelude.{Option, drop}
 use Rattle.std.specs.List.{slice_index_or}
-use Rattle.item_equations.specs.Asking.{Asking, gives, bind}
+use Rattle.item_equations.specs.Asking.{gives, bind}
 use Rattle.item_equations.specs.Children.{least_with, least_from, extent_with, extent_from}
 use Rattle.item_equations.specs.Family.{Family}
 use Rattle.item_equations.specs.declared.axis.Axis.{Axis}

@@ -1,3 +1,4 @@
 pub mod Walks
 pub mod Chosen
 pub mod Folds
+pub mod Answered

@@ -9,3 +9,4 @@ pub mod Records
 pub mod Children
 pub mod Native
 pub mod Ignored
+pub mod Values

@@ -6,7 +6,7 @@ use Rattle.qml_ast.specs.declared.value.Value.TheVariants as value
 use Rattle.type_table.specs.declared.item_slots.TheConstants.{ANCHORS_MARGINS}
 use Rattle.item_equations.specs.Asking.{Asking, gives, asks, bind}
 use Rattle.item_equations.specs.Family.{Family}
-use Rattle.item_equations.specs.Slots.{shown_of, set_of}
+use Rattle.item_equations.specs.Slots.{shown_of}
 
 -- the number or the truth value that a value is; a slot of that kind holds no other
 abbrev pub int_of : Value → ℤ

@@ -2,7 +2,6 @@
 use Rattle.std.specs.Prelude.{ℕ, ℤ, pos, Option, None, Some, Result, Ok, Err}
 use Rattle.anchors.specs.Table.{value_of, answer_of}
 use Rattle.anchors.specs.declared.axis.AxisColumn.{AxisColumn}
-use Rattle.anchors.specs.declared.axis.AxisColumn.TheVariants as column
 use Rattle.anchors.specs.declared.axis.AxisRecord.{AxisRecord}
 use Rattle.anchors.specs.declared.axis.Target.{Target}
 use Rattle.anchors.specs.declared.row.Row.{Row}

@@ -6,6 +6,7 @@
 pub mod axis;
 mod children;
 pub mod ignored;
+pub mod laws;
 mod lines;
 pub mod native;
 mod reading;
@@ -18,6 +19,7 @@ pub mod view;
 
 pub use axis::Axis;
 pub use ignored::{Neglect, is_anchor, neglect_of};
+pub use laws::equations_say_what_is_shown;
 pub use native::{Native, evaluate, native_of};
 pub use stop::Stop;
 pub use ties::{Kin, Spot, Tie, tie_of};

@@ -1,4 +1,3 @@
-use Rattle.std.proofs.Common.{◌≡◌, ℕ, ◌+◌, ◌-◌, ◌*◌, ◌<◌, ◌≤◌, length}
 use Rattle.item_equations.proofs.rows.+row_from.Given as goal
 
 abbrev pub decreases-row_from : goal.decreases-row_from
