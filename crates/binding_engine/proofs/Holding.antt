@@ -19,6 +19,7 @@ use Rattle.expr_eval.specs.Walks.{ends_as}
 use Rattle.expr_eval.specs.declared.answer.Eval.{Eval}
 use Rattle.expr_eval.specs.declared.answer.Eval.TheVariants as said
 use Rattle.expr_eval.proofs.Follows.{answers}
+use Rattle.item_equations.proofs.Answered as law
 use Rattle.item_equations.specs.declared.native.Native.{Native}
 use Rattle.settling.specs.Cells.{Kept, Cell, plain, resting, fresh, under_way, stopped, active, marked, suspended, value_of, mark_of, is_plain, is_suspended, is_valued, is_fresh, is_ended}
 use Rattle.settling.specs.Cells.{Becomes}
@@ -33,10 +34,10 @@ use Rattle.object_tree.specs.declared.property.Binding.{Binding}
 use Rattle.object_tree.specs.declared.property.Held.{Held}
 use Rattle.object_tree.specs.Ignored.{with_ignored}
 use Rattle.object_tree.specs.Places.{places_of}
-use Rattle.object_tree.specs.Reading.{instance_at, binding_at, info_at, held_at}
+use Rattle.object_tree.specs.Reading.{instance_at, binding_at, info_at, held_at, value_read}
 use Rattle.object_tree.specs.Store.{Store}
 use Rattle.object_tree.specs.Writing.{kept, marked as with_marks_at, ended}
-use Rattle.binding_engine.specs.Equations.{shape_of, given, taken_in, bound_tree, native_tree, native_at, has_owner, equation_by, equation, has_equation, tree_at, equated}
+use Rattle.binding_engine.specs.Equations.{shape_of, given, taken_in, bound_tree, family_of, native_tree, native_at, has_owner, equation_by, equation, has_equation, tree_at, equated}
 use Rattle.binding_engine.specs.Holding.{value_in, meanings_of, taken_or_wrong, result_of, result_by, result_at, Fulfils, Unless, HoldsOf, EquationsHold, KeepsLast, is_newly_suspended}
 use Rattle.binding_engine.specs.Settling.{settled_from, is_stopped, marks_of, valued, with_cell, with_cells, settled_store}
 use Rattle.binding_engine.specs.Standing.{Standing, space, one_place, kept_in, is_suspended_in, first_of, first}
@@ -233,14 +234,14 @@ bound_result store q (said.Faulted f) r h = sym h
 bound_result store q (said.Needs p) r h = absurd h
 
 results : (store : Store) (q : Place) → result_at store q ≡ option_map (λ t. answer t (value_in store)) (equation store q)
-unfolding result_at equation bound_tree
+unfolding result_at equation bound_tree native_tree
 results store q = by (has_owner (instance_at q.serial store)) (binding_at q store) (native_at store q)
   where
     by : (owned : Bool) (b : Option Binding) (native : Option Native) → (if owned then result_by store q b native else None) ≡ option_map (λ t. answer t (value_in store)) (if owned then equation_by store q b native else None)
     by true (Some b) native =
         ap Some (bound_result store q (value_and_reads (meanings_of store) b.expr b.frame []).0 (answer (bound_tree store q b) (value_in store))
         (answers (shape_of store) (value_in store) b.expr b.frame [] (λ v. given (taken_in (info_at q store) store v))).answers)
-    by true None (Some native) = refl
+    by true None (Some native) = ap Some (sym (law.answers (family_of store) (value_in store) (value_read store) native q.serial))
     by true None None = refl
     by false b native = refl
 

@@ -11,15 +11,16 @@ use Rattle.expr_eval.specs.Shapes.{meanings}
 use Rattle.expr_eval.specs.Traces.{are_same}
 use Rattle.expr_eval.specs.declared.answer.Eval.{Eval}
 use Rattle.expr_eval.specs.declared.answer.Eval.TheVariants as said
+use Rattle.item_equations.specs.Values.{value_shown}
 use Rattle.item_equations.specs.declared.native.Native.{Native}
 use Rattle.settling.specs.Loops.{has_loop, AreOnce}
-use Rattle.settling.specs.Runs.{answer, reads}
+use Rattle.settling.specs.Runs.{reads}
 use Rattle.object_tree.specs.declared.property.Binding.{Binding}
 use Rattle.object_tree.specs.declared.property.Held.{Held}
 use Rattle.object_tree.specs.Places.{places_of}
-use Rattle.object_tree.specs.Reading.{instance_at, binding_at, info_at, held_at}
+use Rattle.object_tree.specs.Reading.{instance_at, binding_at, info_at, held_at, value_read}
 use Rattle.object_tree.specs.Store.{Store}
-use Rattle.binding_engine.specs.Equations.{shape_of, taken_in, native_tree, native_at, has_owner}
+use Rattle.binding_engine.specs.Equations.{shape_of, taken_in, family_of, native_tree, native_at, has_owner}
 use Rattle.binding_engine.specs.Standing.{space, kept_in, is_suspended_in}
 
 -- what a place of a store holds
@@ -43,7 +44,7 @@ result_of store place (said.Needs p) = Err WrongKind
 
 abbrev pub result_by : Store → Place → Option Binding → Option Native → Option (Result Value EvalFault)
 result_by store place (Some b) native = Some (result_of store place (value_and_reads (meanings_of store) b.expr b.frame []).0)
-result_by store place None (Some native) = Some (answer (native_tree store native place.serial) (value_in store))
+result_by store place None (Some native) = Some (value_shown (family_of store) (λ p. value_read store (value_in store p)) native place.serial)
 result_by store place None None = None
 
 -- The value, or the fault, of the expression that a place is bound to over this store, as its slot takes it; of what an item shows by an equation of
