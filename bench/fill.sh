@@ -1,6 +1,8 @@
 #!/usr/bin/env bash
-# Times filling a canvas: all of one of 4096 by 4096 pixels and all of one of 300 by 200, opaque and
-# translucent, and prints the time a pixel. Builds the program in a temporary folder.
+# Times filling a canvas: all of one of 4096 by 4096 pixels, 100 times, and all of one of 300 by 200, opaque and
+# translucent, and prints the time a pixel; beside the large one how many times that of a memset of as many bytes it is,
+# where there is a C compiler. Builds the programs in a temporary folder.
+# Bar: 1.3 times a memset where the colour is opaque, 3.3 times where it is translucent.
 #
 # usage: bench/fill.sh
 set -euo pipefail
@@ -47,7 +49,7 @@ fn measure(rt: &(impl Print + Clock), alloc: Global, width: u32, height: u32, ar
 
 fn main(rt: HostRuntime) -> io::Result<()> {
     for argb in [0xff12_3456, 0x8012_3456] {
-        measure(&rt, rt.alloc(), 4096, 4096, argb, 20)?;
+        measure(&rt, rt.alloc(), 4096, 4096, argb, 100)?;
         measure(&rt, rt.alloc(), 300, 200, argb, 5000)?;
     }
     Ok(())
@@ -55,4 +57,27 @@ fn main(rt: HostRuntime) -> io::Result<()> {
 PROGRAM
 cd "$folder/crates/fills"
 rt run > "$folder/log" 2>&1 || { cat "$folder/log"; exit 1; }
-awk '$1 == "fills" { printf "%d by %d, %s: %.3f ns a pixel\n", $2, $3, ($4 >= 4278190080 ? "opaque" : "translucent"), $6 / ($5 * $2 * $3) }' "$folder/log"
+cat > "$folder/memset.c" <<'PROGRAM'
+#include <stdio.h>
+#include <stdlib.h>
+#include <string.h>
+#include <time.h>
+int main(void) {
+    size_t bytes = 3u * 4096 * 4096;
+    char *pixels = malloc(bytes);
+    struct timespec from, to;
+    memset(pixels, 1, bytes);
+    clock_gettime(CLOCK_MONOTONIC, &from);
+    for (int i = 0; i < 100; i++) { memset(pixels, i, bytes); __asm__ volatile("" : : "r"(pixels) : "memory"); }
+    clock_gettime(CLOCK_MONOTONIC, &to);
+    printf("%f\n", ((to.tv_sec - from.tv_sec) * 1e9 + (to.tv_nsec - from.tv_nsec)) / (100.0 * 4096 * 4096));
+}
+PROGRAM
+plain=0
+if command -v cc > /dev/null && cc -O2 -o "$folder/memset" "$folder/memset.c"; then plain=$("$folder/memset"); fi
+awk -v plain="$plain" '$1 == "fills" {
+    each = $6 / ($5 * $2 * $3)
+    printf "%d by %d, %s: %.3f ns a pixel", $2, $3, ($4 >= 4278190080 ? "opaque" : "translucent"), each
+    if (plain > 0 && $2 == 4096) printf ", %.2f times a memset (%.3f ns)", each / plain, plain
+    printf "\n"
+}' "$folder/log"
