@@ -323,7 +323,7 @@ module _ (family : Family) (v : Place → Value) (axis : Axis) (item : ℕ) wher
   shown_place_came =
       goes v (row family axis item) (λ found. bind (Records.placed family axis item found) (λ a. bind (Records.anchored_as column.Place a) (or_set family axis item))) _ row_came
       ∙ placed_by (tie asked.Fill) (tie asked.CenterIn) (tie asked.Near) (tie asked.Far) (tie asked.Center) (λ a. bind (Records.anchored_as column.Place a) (or_set family axis item))
-        (λ o. values.or_else family v axis item (int_of (v (set_of item (slots_of axis).place))) (answer_of o)) or_set_came
+      (λ o. values.or_else family v axis item (int_of (v (set_of item (slots_of axis).place))) (answer_of o)) or_set_came
 
   own_size_came : came v (own_size family axis item) ≡ Ok (values.own_size family v axis item)
   unfolding own_size
@@ -348,7 +348,7 @@ module _ (family : Family) (v : Place → Value) (axis : Axis) (item : ℕ) wher
   shown_size_came =
       goes v (row family axis item) (λ found. bind (Records.sized family axis item found) (λ a. bind (Records.anchored_as column.Size a) (or_own family axis item))) _ row_came
       ∙ sized_by (tie asked.Fill) (tie asked.CenterIn) (tie asked.Near) (tie asked.Far) (tie asked.Center) (λ a. bind (Records.anchored_as column.Size a) (or_own family axis item))
-        (λ o. values.or_else family v axis item (values.own_size family v axis item) (answer_of o)) or_own_came
+      (λ o. values.or_else family v axis item (values.own_size family v axis item) (answer_of o)) or_own_came
 
   -- ---- the items in the item
   abbrev with_place : Option ℤ → ℕ → Option ℤ

@@ -64,11 +64,7 @@ pub(crate) fn note_faults(
 }
 
 // Notes an anchor that counts for nothing, at the name of its item's type.
-fn note_ignored(
-    objects: &Objects,
-    ignored: &Ignored,
-    notes: &mut Notes,
-) -> Result<(), AllocError>
+fn note_ignored(objects: &Objects, ignored: &Ignored, notes: &mut Notes) -> Result<(), AllocError>
     ensures { OnOk result (notes.new ≡ notes.old ++ ignored_note objects.now ignored.now) }
 {
     let Some(at) = objects.type_at(ignored.place.serial) else {

@@ -25,11 +25,7 @@ impl World {
         let settled = self.engine.settle(alloc, &mut self.objects, writes)?;
         note_loops(&self.objects, settled.loops.as_slice(), &mut self.notes)?;
         note_faults(&self.objects, settled.faulted.as_slice(), &mut self.notes)?;
-        note_all_ignored(
-            &self.objects,
-            settled.ignored.as_slice(),
-            &mut self.notes,
-        )?;
+        note_all_ignored(&self.objects, settled.ignored.as_slice(), &mut self.notes)?;
         add_events(&self.objects, settled.changed.as_slice(), &mut self.events)?;
         Ok(settled.changed)
     }
