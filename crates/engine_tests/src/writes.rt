@@ -7,7 +7,7 @@ use object_tree::Objects;
 use qml_ast::{DocFault, Place, Side, Value};
 use std::alloc::Global;
 use std::test::Fail;
-use type_table::item_slots::{X, Y};
+use type_table::item_slots::{CHILDREN_RECT_WIDTH, CHILDREN_RECT_X, WIDTH, X, Y};
 
 /// A document; the place that is written, and the number; what places hold then, which of them show another value,
 /// and how many loops there are.
@@ -51,7 +51,7 @@ macro_rules! case {
     };
 }
 
-static CASES: [Case; 6] = [
+static CASES: [Case; 7] = [
     // a chain of three declared properties
     case!("Item { property int a: b + 1; property int b: c + 1; property int c: 3 }", shown!(2, 39), 7 =>
         &[(shown!(2, 37), 9), (shown!(2, 38), 8)], &[shown!(2, 37), shown!(2, 38), shown!(2, 39)], 0),
@@ -59,10 +59,14 @@ static CASES: [Case; 6] = [
     case!("Item { x: y + 1; y: x + 1 }", set!(2, Y), 5 => &[(shown!(2, X), 6), (shown!(2, Y), 5)], &[shown!(2, X), shown!(2, Y)], 0),
     // by one that leaves the loop, which is found again
     case!("Item { property int z1; x: y + 1; y: x + 1 }", shown!(2, 37), 5 => &[(shown!(2, X), 0), (shown!(2, Y), 1)], &[shown!(2, 37)], 1),
-    // and not by a write to another object
-    case!("Item { x: y + 1; y: x + 1; Item { } }", set!(3, X), 5 => &[(shown!(2, X), 0), (shown!(2, Y), 1)], &[shown!(3, X)], 0),
+    // and not by a write to another object, which moves what its parent holds
+    case!("Item { x: y + 1; y: x + 1; Item { } }", set!(3, X), 5 => &[(shown!(2, X), 0), (shown!(2, Y), 1)], &[shown!(2, CHILDREN_RECT_X), shown!(3, X)], 0),
     // a place whose expression faults from now on keeps its last value
     case!("Item { property int a: 12 / b; property int b: 3 }", shown!(2, 38), 0 => &[(shown!(2, 37), 4), (shown!(2, 38), 0)], &[shown!(2, 38)], 0),
+    // a chain through a size that anchors give
+    case!("Item { property int n: 3; width: n; Item { id: a; anchors.fill: parent; property int m: width * 2 } }", shown!(2, 37), 8 =>
+        &[(shown!(3, WIDTH), 8), (shown!(3, 37), 16)],
+        &[shown!(2, WIDTH), shown!(2, CHILDREN_RECT_WIDTH), shown!(2, 37), shown!(3, WIDTH), shown!(3, 37)], 0),
     // an equal value changes nothing
     case!("Item { property int a: b; property int b: 3 }", shown!(2, 38), 3 => &[(shown!(2, 37), 3)], &[], 0),
 ];

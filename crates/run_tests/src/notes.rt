@@ -4,7 +4,7 @@ use std::alloc::{AllocError, Global};
 use std::test::Fail;
 
 /// A document and what its start tells.
-const NOTED: [(&str, &str); 17] = [
+const NOTED: [(&str, &str); 23] = [
     ("Item { }", ""),
     (
         "Item { signal hit(int n); onHit: console.log(n); Component.onCompleted: hit(7) }",
@@ -69,6 +69,34 @@ const NOTED: [(&str, &str); 17] = [
     (
         "Item { Component.onCompleted: { const k = 1; k = 2 } }",
         "Main.qml:1:8: evaluation fault: read only\n",
+    ),
+    // a hidden item hides what is in it
+    (
+        "Item { visible: false; Item { id: a } Component.onCompleted: console.log(a.visible) }",
+        "qml: false\n",
+    ),
+    // 3 in 10, and 13 in 10: half a pixel is cut off
+    (
+        "Rectangle { width: 10; Rectangle { id: a; width: 3; anchors.centerIn: parent } Component.onCompleted: console.log(a.x) }",
+        "qml: 3\n",
+    ),
+    (
+        "Rectangle { width: 10; Rectangle { id: a; width: 13; anchors.centerIn: parent } Component.onCompleted: console.log(a.x) }",
+        "qml: -1\n",
+    ),
+    // a size that follows a child that follows it
+    (
+        "Item { width: childrenRect.width; Item { anchors.fill: parent } Component.onCompleted: console.log(width) }",
+        "Main.qml:1:8: Binding loop detected for property \"width\"\nqml: 0\n",
+    ),
+    // anchors that count for nothing
+    (
+        "Item { Item { anchors.fill: parent; anchors.left: parent.top } }",
+        "Main.qml:1:8: anchor target ignored: anchors.left\n",
+    ),
+    (
+        "Item { id: p; Item { id: a; anchors { left: p.left; right: p.right; horizontalCenter: p.left } } Component.onCompleted: { a.anchors.left = undefined; a.anchors.left = p.right } }",
+        "Main.qml:1:15: center anchor ignored: anchors.horizontalCenter\nMain.qml:1:15: center anchor ignored: anchors.horizontalCenter\n",
     ),
 ];
 

@@ -333,3 +333,75 @@ fn a_document_of_too_many_objects(rt: HostRuntime) -> Result<(), Fail> {
     }
     Ok(())
 }
+
+/// A document, and the first pixels of its first row, red, green and blue each; all others of the row are white.
+const ROWS: [(&str, &[u8]); 8] = [
+    // a clip cuts what stands in the item, at whatever depth
+    (
+        "Item { x: 2; width: 2; height: 1; clip: true; Item { Rectangle { x: -1; width: 5; height: 1; color: 'black' } } }",
+        b"\xff\xff\xff\xff\xff\xff\x00\x00\x00\x00\x00\x00\xff\xff\xff",
+    ),
+    // half of red over white, and over what was painted before
+    (
+        "Rectangle { width: 1; height: 1; color: '#80ff0000' }",
+        b"\xff\x7f\x7f",
+    ),
+    (
+        "Rectangle { width: 2; height: 1; color: 'blue'; Rectangle { x: 1; width: 1; height: 1; color: '#80ff0000' } }",
+        b"\x00\x00\xff\x80\x00\x7f",
+    ),
+    // by z, and under its parent where that is below 0
+    (
+        "Rectangle { width: 2; height: 1; color: 'black'; Rectangle { z: 1; width: 1; height: 1; color: 'red' } Rectangle { width: 2; height: 1; color: 'lime' } Rectangle { z: -1; width: 3; height: 1; color: 'blue' } }",
+        b"\xff\x00\x00\x00\xff\x00\x00\x00\xff",
+    ),
+    // equal z as they are made
+    (
+        "Item { Rectangle { z: 3; width: 2; height: 1; color: 'red' } Rectangle { z: 3; width: 1; height: 1; color: 'lime' } }",
+        b"\x00\xff\x00\xff\x00\x00",
+    ),
+    // a border of one pixel round an inside of two
+    (
+        "Rectangle { y: -1; width: 4; height: 3; color: 'red'; border.color: 'black' }",
+        b"\x00\x00\x00\xff\x00\x00\xff\x00\x00\x00\x00\x00",
+    ),
+    // one as wide as half of it takes all
+    (
+        "Rectangle { width: 2; height: 9; color: 'red'; border { width: 1; color: '#0000ff' } }",
+        b"\x00\x00\xff\x00\x00\xff",
+    ),
+    (
+        "Rectangle { width: 1; height: 1; color: 'transparent'; Rectangle { visible: false; width: 9; height: 9 } }",
+        b"",
+    ),
+];
+
+fn has_row(image: &[u8], pixels: &[u8]) -> bool {
+    image.len() == IMAGE
+        && image[15..].starts_with(pixels)
+        && image[15 + pixels.len()..1935]
+            .iter()
+            .all(|byte| *byte == 0xff)
+}
+
+fn is_row_of(alloc: Global, document: &str, pixels: &[u8]) -> Result<bool, AllocError> {
+    if pixels.len() > 100 {
+        return Ok(false);
+    }
+    let given = Given {
+        words: &["Main.qml", "script.txt"],
+        files: &[("Main.qml", document), ("script.txt", "frame")],
+        failing: 0,
+        room: IMAGE,
+    };
+    let outcome = outcome_of(alloc, &given)?;
+    Ok(has_row(outcome.frames.contents(), pixels))
+}
+
+#[test]
+fn clips_blends_order_and_borders(rt: HostRuntime) -> Result<(), Fail> {
+    for (document, pixels) in ROWS {
+        assert!(rt; is_row_of(rt.alloc(), document, pixels)?, "{document}");
+    }
+    Ok(())
+}
