@@ -1,2 +1,3 @@
 pub mod Arenas
 pub mod Slots
+pub mod Back

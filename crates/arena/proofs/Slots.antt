@@ -1,12 +1,12 @@
 -- Values in a slab that come and go.
-use Rattle.std.proofs.Common.{zero, suc, ◌≡◌, ◌≢◌, ◌∙◌, ℕ, ◌+◌, ◌<◌, ◌≤◌, List, [], ◌∷◌, ◌++◌, length, map, filter, Bool, true, false, cond, Option, None, Some, is_some, IsSome, refl, sym, ap, subst, arith, get_or-set_same, get_or-set_other}
-use Rattle.std.specs.Prelude.{slice_set, slice_index_or}
+use Rattle.std.proofs.Common.{zero, suc, ◌≡◌, ◌≢◌, ◌∙◌, ℕ, ◌+◌, List, [], ◌∷◌, ◌++◌, length, filter, Bool, true, false, cond, Option, None, Some, IsSome, refl, sym, ap, subst, arith, get_or-set_other}
+use Rattle.std.specs.Prelude.{slice_set}
 use Rattle.std.specs.Option.{option_and_then, option_map}
 use Rattle.std.specs.Map.{keys_of, lookup, set_value, remove_entry}
 use Rattle.std.specs.BTreeMap.{insert_entry}
 use Rattle.std.specs.Ordering.{nat_cmp}
 use Rattle.arena.specs.Arena.{Arena, first_of}
-use Rattle.arena.proofs.Arenas.{inserted_last, up_to_next, up_to_without}
+use Rattle.arena.proofs.Arenas.{inserted_last, given_next, given_without}
 use Rattle.arena.specs.Slots.{slot_at, listed, things, Avoids, HasEach, IsHeld}
 
 injected : (a b : ℕ) → Some a ≡ Some b → a ≡ b
@@ -229,7 +229,7 @@ module _ {T : Type 0} where
       IsHeld last now rest
   removed_held test last slots now es rest key is left only held =
       let P : List (ℕ × ℕ) → Type 0 = HasEach now in
-      record { given = up_to_without test last es rest left held.given; each = subst P (sym left) (each_left test slots now es key is only held.each) }
+      record { given = given_without test last es rest left held.given; each = subst P (sym left) (each_left test slots now es key is only held.each) }
 
   pub removed_things : (test : ℕ → Bool) (slots now : List (Option T)) (es rest : List (ℕ × ℕ)) (key : ℕ) → lookup test es ≡ Some key → rest ≡ remove_entry test es → OnlyAt slots now key → HasEach slots es →
       things now rest ≡ remove_entry test (things slots es)
@@ -244,7 +244,7 @@ module _ {T : Type 0} where
   inserted_held last slots now es all key w is none put only held =
       let P : List (ℕ × ℕ) → Type 0 = IsHeld (last + 1) now in
       subst P (sym is) (record {
-        given = up_to_next es last key held.given;
+        given = given_next es last key held.given;
         each = rw (inserted_last es last key held.given) (each_more slots now es (last + 1) key w none put only held.each);
       })
 

@@ -1,5 +1,5 @@
 -- Values under serials.
-use Rattle.std.specs.Prelude.{◌≡◌, ℕ, ◌+◌, ◌≤◌, Option, None, Some, List, [], ◌∷◌, ◌++◌, filter, refl}
+use Rattle.std.specs.Prelude.{ℕ, ◌+◌, ◌≤◌, nat_le, Option, None, Some, List, [], ◌∷◌, ◌++◌, filter, refl}
 use Rattle.std.specs.Coded.{Coded, code_by, coded×, coded_ℕ, coded_list}
 use Rattle.std.specs.Map.{lookup, set_value, remove_entry}
 use Rattle.std.specs.BTreeMap.{is_at}
@@ -20,10 +20,10 @@ arena_code {T} code =
     (λ p. record { last = p.0; things = p.1 })
     (λ _. refl)
 
--- none of these is greater
-abbrev pub AreUpTo : ℕ → List ℕ → Type 0
-AreUpTo last [] = Unit {0}
-AreUpTo last (serial ∷ serials) = (serial ≤ last) × AreUpTo last serials
+-- each of these was given, where the last one that was given is this one
+abbrev pub AreGiven : ℕ → List ℕ → Type 0
+AreGiven last [] = Unit {0}
+AreGiven last (serial ∷ serials) = (1 ≤ serial) × (serial ≤ last) × AreGiven last serials
 
 module _ {T : Type 0} where
   -- the value under a serial
@@ -41,6 +41,14 @@ module _ {T : Type 0} where
   -- with one value more, under the next serial
   abbrev pub with_next : Arena T → T → Arena T
   with_next a thing = record { last = a.last + 1; things = a.things ++ ((a.last + 1, thing) ∷ []) }
+
+  -- without the values under serials after this one
+  abbrev pub without_later : ℕ → Arena T → Arena T
+  without_later last a = record a { things = filter (λ e. nat_le e.0 last) a.things }
+
+  -- as if no serial had been given after this one
+  abbrev pub up_to : ℕ → Arena T → Arena T
+  up_to last a = record (without_later last a) { last = last }
 
   -- the first of these
   abbrev pub first_of : List (ℕ × T) → Option (ℕ × T)

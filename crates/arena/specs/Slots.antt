@@ -1,7 +1,7 @@
 -- Values in a slab, with the slab's key of each serial.
-use Rattle.std.specs.Prelude.{◌≡◌, ◌≢◌, ℕ, ◌≤◌, Option, None, Some, IsSome, List, [], ◌∷◌, slice_index_or}
+use Rattle.std.specs.Prelude.{◌≢◌, ℕ, Option, None, Some, IsSome, List, [], ◌∷◌, slice_index_or}
 use Rattle.std.specs.Map.{keys_of}
-use Rattle.arena.specs.Arena.{AreUpTo}
+use Rattle.arena.specs.Arena.{AreGiven}
 
 -- no serial has this key
 abbrev pub Avoids : ℕ → List (ℕ × ℕ) → Type 0
@@ -30,5 +30,5 @@ module _ {T : Type 0} where
 
   -- the serials are those that were given and are there
   pub record IsHeld (last : ℕ) (slots : List (Option T)) (es : List (ℕ × ℕ)) : Type 0 where
-    pub given : AreUpTo last (keys_of es)
+    pub given : AreGiven last (keys_of es)
     pub each : HasEach slots es

@@ -3,7 +3,7 @@ ghost use Rattle.std.specs.List.Sorted.{IsStrictlySortedBy};
 ghost use Rattle.std.specs.Map.{keys_of};
 ghost use Rattle.std.specs.Option.{option_copied_mut, option_map};
 ghost use Rattle.std.specs.Borrow.{sem};
-ghost use Rattle.arena.specs.Arena.{thing_at, with_thing, without, with_next, next_above, first_of};
+ghost use Rattle.arena.specs.Arena.{AreGiven, thing_at, with_thing, without, without_later, up_to, with_next, next_above, first_of};
 ghost use Rattle.std.specs.Ordering.{nat_cmp, is_lt};
 ghost use Rattle.arena.specs.Lends.{lends_thing, lends_present};
 
@@ -61,9 +61,11 @@ impl<T: Drop> Arena<T> {
         }
     }
 
-    /// The last serial that was given, or 0.
+    /// The last serial that was given, or 0. What has a value is one of the serials from 1 up to it.
+    #[tactic(auto, using(crate::proofs::Slots::keys_things))]
     pub fn last(&self) -> u64
-        ensures { result ≡ self.now.last }
+        ensures last { result ≡ self.now.last }
+        ensures given { AreGiven self.now.last (keys_of self.now.things) }
     {
         self.last
     }
@@ -142,6 +144,23 @@ impl<T: Drop> Arena<T> {
             Some(key) => self.slots.try_remove(key),
             None => None,
         }
+    }
+
+    // Takes out all values under serials after this one.
+    fn remove_after(&mut self, last: u64)
+        ensures { self.new ≡ without_later last self.old }
+    {
+        while let Some((serial, _)) = self.next_after(last) {
+            self.remove(serial);
+        }
+    }
+
+    /// Takes out all values that were put in after this serial, which is then the last one that was given.
+    pub fn take_back_after(&mut self, last: u64)
+        ensures { self.new ≡ up_to last self.old }
+    {
+        self.remove_after(last);
+        self.last = last;
     }
 
     /// The serials that have a value, rising. The only error is that memory ran out.

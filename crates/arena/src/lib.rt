@@ -1,4 +1,4 @@
-//! Values under serials that only rise. A serial is never given again.
+//! Values under serials that rise. A serial is given again only where it was taken back.
 #![tactic(auto)]
 
 pub mod arena;

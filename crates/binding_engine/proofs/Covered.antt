@@ -1,6 +1,6 @@
 -- A place that has an expression is among the places of its store, and stands first as its entry says.
 use Rattle.std.proofs.Common.{◌≡◌, ℕ, zero, suc, ◌+◌, Bool, true, false, List, [], ◌∷◌, ◌++◌, refl, sym, ap, subst, ◌∙◌, inl, inr, arith, add-zero}
-use Rattle.std.specs.Prelude.{Option, None, Some, is_some, option_and_then, if◌then◌else◌, ◌&&◌, ◌||◌, ◌⊎◌, filter, fold, slice_get}
+use Rattle.std.specs.Prelude.{Option, None, Some, is_some, option_and_then, if◌then◌else◌, ◌||◌, ◌⊎◌, filter, fold, slice_get}
 use Rattle.std.specs.List.{list_any}
 use Rattle.std.specs.Map.{lookup, keys_of}
 use Rattle.std.specs.BTreeMap.{is_at}

@@ -1,6 +1,6 @@
 -- A store without what its places hold: what names stand for, and the expressions of places, depend on no more.
 use Rattle.std.proofs.Common.{◌≡◌, ℕ, zero, suc, ◌+◌, Bool, true, false, List, [], ◌∷◌, ◌++◌, map, length, refl, sym, ap, ◌∙◌}
-use Rattle.std.specs.Prelude.{Option, None, Some, is_some, option_and_then, option_map, if◌then◌else◌, ◌&&◌, slice_get, slice_set, nat_lt, ◌-◌, ◌^◌}
+use Rattle.std.specs.Prelude.{Option, None, Some, is_some, option_and_then, option_map, if◌then◌else◌, slice_get, slice_set, nat_lt, ◌-◌, ◌^◌}
 use Rattle.std.specs.Option.{option_or}
 use Rattle.std.specs.Map.{lookup, set_value, keys_of}
 use Rattle.std.specs.BTreeMap.{is_at}
@@ -20,7 +20,6 @@ use Rattle.expr_eval.specs.declared.found.Found.TheVariants as found
 use Rattle.expr_eval.specs.declared.found.Frame.{Frame}
 use Rattle.expr_eval.specs.declared.found.GroupName.{GroupName}
 use Rattle.item_equations.specs.Asking.{as_tree}
-use Rattle.item_equations.specs.Family.{Family}
 use Rattle.item_equations.specs.Native as items
 use Rattle.item_equations.specs.declared.native.Native.{Native}
 use Rattle.object_tree.specs.declared.context.Context.{Context}

@@ -2,6 +2,7 @@ pub mod Moves
 pub mod Walking
 pub mod Natives
 pub mod Resting
+pub mod Onward
 pub mod Alike
 pub mod Unmoved
 pub mod Covered

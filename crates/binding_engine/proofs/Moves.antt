@@ -109,12 +109,15 @@ pub gives_up : (s : State) (p : Place) → phase_of (at s p) ≡ Stopped → Mov
 unfolding staged
 gives_up s p h = ap (λ (es : Entries). (s.0, es)) (left_by (held_at p s.0) p s.1 (entry_at p s.1) h)
 
+pub fails : (s : State) (p : Place) (f : EvalFault) → (s.0, failed p f s.1) ≡ space.put s p (marked (value_of (at s p)) f)
+fails s p f = ap (λ (es : Entries). (s.0, es)) (failed_as (held_at p s.0) p s.1 f (entry_at p s.1) refl)
+
 -- ---- what comes of an evaluation
 pub comes_to_value : (s : State) (p : Place) (r : Tree) (v : Value) → has_value v ≡ walk space r s → evaluated space p r s ≡ (None, (s.0, with_entry p (entry_with stage.Active v None) s.1))
 comes_to_value s p r v h = ap (written space p s) (sym h)
 
 pub comes_to_fault : (s : State) (p : Place) (r : Tree) (f : EvalFault) → has_fault f ≡ walk space r s → evaluated space p r s ≡ (None, (s.0, failed p f s.1))
-comes_to_fault s p r f h = ap (written space p s) (sym h) ∙ ap (λ (es : Entries). (None, (s.0, es))) (sym (failed_as (held_at p s.0) p s.1 f (entry_at p s.1) refl))
+comes_to_fault s p r f h = ap (written space p s) (sym h) ∙ ap (λ (t : State). (None, t)) (sym (fails s p f))
 
 pub comes_to_need : (s : State) (p : Place) (r : Tree) (q : Place) → has_need q ≡ walk space r s → evaluated space p r s ≡ (Some q, s)
 comes_to_need s p r q h = ap (written space p s) (sym h)

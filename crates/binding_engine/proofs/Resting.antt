@@ -1,8 +1,6 @@
 -- A store that nobody settles: each place has its value.
-use Rattle.std.proofs.Common.{◌≡◌, [], refl, ap}
-use Rattle.std.specs.Prelude.{Option, is_some}
-use Rattle.qml_ast.specs.declared.place.Place.{Place}
-use Rattle.qml_ast.specs.declared.value.Value.{Value}
+use Rattle.std.proofs.Common.{◌≡◌, [], ap}
+use Rattle.std.specs.Prelude.{is_some}
 use Rattle.expr_eval.specs.Shapes.{meanings}
 use Rattle.settling.specs.Cells.{clean, value_of}
 use Rattle.item_equations.specs.Asking.{sight}

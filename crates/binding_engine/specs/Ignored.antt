@@ -1,5 +1,5 @@
 -- Which anchors count for nothing over the values of a store.
-use Rattle.std.specs.Prelude.{ℕ, Bool, true, false, ◌&&◌, not, if◌then◌else◌, Option, None, Some, option_map, List, [], ◌∷◌, filter, flat_map, map}
+use Rattle.std.specs.Prelude.{Bool, true, false, ◌&&◌, not, if◌then◌else◌, Option, None, Some, option_map, List, [], ◌∷◌, filter, flat_map, map}
 use Rattle.type_table.specs.Slots.{is_item}
 use Rattle.qml_ast.specs.declared.place.Place.{Place}
 use Rattle.qml_ast.specs.declared.value.Value.{Value}
@@ -8,7 +8,6 @@ use Rattle.item_equations.specs.declared.ignored.Neglect.{Neglect}
 use Rattle.item_equations.specs.declared.ignored.Neglect.TheVariants.{Target, Center}
 use Rattle.object_tree.specs.declared.instance.Instance.{Instance}
 use Rattle.object_tree.specs.Ignored.{was_ignored}
-use Rattle.object_tree.specs.Ignored as objects
 use Rattle.object_tree.specs.Places.{places_of}
 use Rattle.object_tree.specs.Reading.{instance_at, held_at, value_read}
 use Rattle.object_tree.specs.Store.{Store}

@@ -5,3 +5,4 @@ pub mod Settling
 pub mod Entries
 pub mod Findings
 pub mod Holding
+pub mod Progress

@@ -8,6 +8,7 @@ mod equations;
 mod findings;
 pub mod ignored;
 mod present;
+mod waiting;
 mod writes;
 
 pub use engine::{Engine, Settled};

@@ -6,12 +6,15 @@ ghost use Rattle.object_tree.specs.Order.{AreRising};
 ghost use Rattle.object_tree.specs.Places.{places_of};
 ghost use Rattle.binding_engine.specs.Equations.{shape_of, family_of, bound_tree, native_tree, taken_in, tree_at, equated, has_equation};
 ghost use Rattle.object_tree.specs.Reading.{info_at};
+ghost use Rattle.binding_engine.specs.Progress.{IsMetAt, AreMet, AreMet-prop, seeing};
+ghost use Rattle.item_equations.specs.Progress.{IsMet};
 ghost use Rattle.binding_engine.specs.Entries.{State, at, space, outcome_of, told, with_first, first_entries};
 
 use crate::cells::{Cells, Entry, Stage};
 use crate::equations::{first_entry, has_equation, has_owner, native_at};
+use crate::waiting::Waiting;
 use expr_eval::{Eval, Found, Frame, GroupName, Locals, Method, Reader, Trace, eval};
-use item_equations::{ItemReader, Native, Stop, evaluate};
+use item_equations::{ItemReader, Native, Progress, Stop, evaluate};
 use object_tree::{Binding, Objects};
 use qml_ast::{EvalFault, Name, Place, Value};
 use settling::{Field, Phase};
@@ -25,7 +28,10 @@ pub(crate) struct Present<'a> {
     /// The places that have an expression, in order.
     pub(crate) places: Vec<Place>,
     pub(crate) cells: Cells,
+    /// The evaluations that stopped after they had met something, the one to go on first at the end.
+    pub(crate) waiting: Vec<Waiting>,
     pub(crate) evaluations: u64,
+    ghost met: { AreMet (objects.now, cells) waiting.items } by { AreMet-prop (objects.now, cells) waiting.items },
 }
 
 /// Adds what a place has as a settle begins, where it has an expression.
@@ -83,6 +89,7 @@ impl<'a> Present<'a> {
             objects,
             places,
             cells,
+            waiting: Vec::new(alloc),
             evaluations: 0,
         })
     }
@@ -99,6 +106,7 @@ impl<'a> Present<'a> {
             objects,
             places: Vec::new(alloc),
             cells: Cells::new(alloc),
+            waiting: Vec::new(alloc),
             evaluations: 0,
         }
     }
@@ -178,21 +186,25 @@ impl Present<'_> {
         }
     }
 
-    /// What comes of an equation of an item.
-    fn native(&self, native: Native, item: u64) -> Eval
-        ensures { outcome_of result ≡ walk space (native_tree self.now.objects.now native item) (self.now.objects.now, self.now.cells) }
+    /// What comes of an equation of an item, which goes on from how far it had come.
+    fn native(&self, native: Native, item: u64, progress: &mut Progress) -> Eval
+        requires { IsMet (seeing (self.now.objects.now, self.now.cells)) (family_of self.now.objects.now) native item progress.old }
+        ensures outcome { outcome_of result ≡ walk space (native_tree self.now.objects.now native item) (self.now.objects.now, self.now.cells) }
+        ensures met { IsMet (seeing (self.now.objects.now, self.now.cells)) (family_of self.now.objects.now) native item progress.new }
     {
-        match evaluate(self, native, item) {
+        match evaluate(self, native, item, progress) {
             Ok(value) => Eval::Is(value),
             Err(Stop::Overflow) => Eval::Faulted(EvalFault::Overflow),
             Err(Stop::Needs(needed)) => Eval::Needs(needed),
         }
     }
 
-    /// What comes of the expression of a place.
+    /// What comes of the expression of a place, which goes on from how far it had come.
     #[tactic(auto, unfolding(settling::specs::Evaluations::walk, crate::specs::Equations::equation))]
-    fn outcome(&self, place: Place) -> Result<Eval, AllocError>
-        ensures { IfOk result (λ e. outcome_of e ≡ walk space (tree_at self.now.objects.now place) (self.now.objects.now, self.now.cells)) }
+    fn outcome(&self, place: Place, progress: &mut Progress) -> Result<Eval, AllocError>
+        requires { IsMetAt (self.now.objects.now, self.now.cells) place progress.old }
+        ensures outcome { IfOk result (λ e. outcome_of e ≡ walk space (tree_at self.now.objects.now place) (self.now.objects.now, self.now.cells)) }
+        ensures met { IsMetAt (self.now.objects.now, self.now.cells) place progress.new }
     {
         if !has_owner(self.objects, place.serial) {
             return Ok(Eval::Faulted(EvalFault::WrongKind));
@@ -201,9 +213,41 @@ impl Present<'_> {
             return self.bound(place, binding);
         }
         match native_at(self.objects, place) {
-            Some(native) => Ok(self.native(native, place.serial)),
+            Some(native) => Ok(self.native(native, place.serial, progress)),
             None => Ok(Eval::Faulted(EvalFault::WrongKind)),
         }
+    }
+
+    /// How far the evaluation of a place had come. It waits no longer.
+    fn take_progress(&mut self, place: Place) -> Progress
+        ensures met { IsMetAt (self.new.objects.now, self.new.cells) place result }
+        ensures objects { self.new.objects.now ≡ self.old.objects.now }
+        ensures cells { self.new.cells ≡ self.old.cells }
+        ensures places { self.new.places.items ≡ self.old.places.items }
+        ensures evaluations { self.new.evaluations ≡ self.old.evaluations }
+    {
+        match self.waiting.as_slice().last() {
+            Some(last) if last.place == place => {
+                let progress = last.progress;
+                self.waiting.pop();
+                progress
+            }
+            _ => Progress::none(),
+        }
+    }
+
+    /// The evaluation of a place waits, if it met something.
+    fn keep_progress(&mut self, place: Place, progress: Progress) -> Result<(), AllocError>
+        requires { IsMetAt (self.old.objects.now, self.old.cells) place progress }
+        ensures objects { self.new.objects.now ≡ self.old.objects.now }
+        ensures cells { self.new.cells ≡ self.old.cells }
+        ensures places { self.new.places.items ≡ self.old.places.items }
+        ensures evaluations { self.new.evaluations ≡ self.old.evaluations }
+    {
+        if progress.has_begun() {
+            self.waiting.push(Waiting { place, progress })?;
+        }
+        Ok(())
     }
 }
 
@@ -254,13 +298,15 @@ impl Field for Present<'_> {
     }
 
     fn suspend(&mut self, place: Place) {
+        self.take_progress(place);
         self.cells.suspend(place);
     }
 
     #[tactic(auto, using(crate::proofs::Moves::comes_to_value, crate::proofs::Moves::comes_to_fault, crate::proofs::Moves::comes_to_need))]
     fn evaluate(&mut self, place: Place) -> Result<Option<Place>, AllocError> {
         self.evaluations = self.evaluations.saturating_add(1);
-        match self.outcome(place)? {
+        let mut progress = self.take_progress(place);
+        match self.outcome(place, &mut progress)? {
             Eval::Is(value) => {
                 let entry = Entry {
                     stage: Stage::Active,
@@ -274,7 +320,10 @@ impl Field for Present<'_> {
                 self.cells.fail(place, fault);
                 Ok(None)
             }
-            Eval::Needs(needed) => Ok(Some(needed)),
+            Eval::Needs(needed) => {
+                self.keep_progress(place, progress)?;
+                Ok(Some(needed))
+            }
         }
     }
 }

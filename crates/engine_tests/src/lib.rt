@@ -2,7 +2,11 @@
 #![tactic(auto)]
 
 #[cfg(test)]
+mod ends;
+#[cfg(test)]
 mod geometry;
+#[cfg(test)]
+mod ignored;
 #[cfg(test)]
 mod makes;
 #[cfg(test)]

@@ -7,7 +7,7 @@ use qml_ast::{DocFault, EvalFault, Place, Side, Value};
 use settling::LoopFound;
 use std::alloc::Global;
 use std::test::Fail;
-use type_table::item_slots::{HEIGHT, WIDTH, X, Y};
+use type_table::item_slots::{CHILDREN_RECT_HEIGHT, CHILDREN_RECT_WIDTH, HEIGHT, WIDTH, X, Y};
 
 struct Loop {
     place: Place,
@@ -63,7 +63,7 @@ macro_rules! found {
 }
 
 // The document's root has the serial 2, and its first declared property is the slot 37.
-static CASES: [Case; 16] = [
+static CASES: [Case; 25] = [
     case!("Item { width: 3 }" => &[(set!(2, WIDTH), 3), (shown!(2, WIDTH), 3), (shown!(2, HEIGHT), 0)], &[], &[]),
     // two properties that read each other: the first one is stopped, and the other one has its value
     case!("Item { x: y + 1; y: x + 1 }" => &[(set!(2, X), 0), (shown!(2, X), 0), (set!(2, Y), 1), (shown!(2, Y), 1)],
@@ -106,6 +106,30 @@ static CASES: [Case; 16] = [
     // a loop in a fault's shadow: the fault comes before the read that would close it
     case!("Item { property int a: 1 / 0 + b; property int b: a }" => &[(shown!(2, 37), 0), (shown!(2, 38), 0)], &[],
         &[(shown!(2, 37), EvalFault::ZeroDivisor)]),
+    // a size that follows the children, one of which fills it: the chain from the size that is stopped, by its reads
+    case!("Item { width: childrenRect.width; Item { anchors.fill: parent } }" => &[(shown!(2, WIDTH), 0), (shown!(3, WIDTH), 0)],
+        &[found!(set!(2, WIDTH), &[shown!(2, CHILDREN_RECT_WIDTH), shown!(3, WIDTH), shown!(2, WIDTH)])], &[]),
+    case!("Item { height: childrenRect.height; Item { anchors.fill: parent; anchors.topMargin: 3 } }" => &[(shown!(2, HEIGHT), 0), (shown!(3, HEIGHT), -3)],
+        &[found!(set!(2, HEIGHT), &[shown!(2, CHILDREN_RECT_HEIGHT), shown!(3, HEIGHT), shown!(2, HEIGHT)])], &[]),
+    // one that is tied to its right line asks for it by its place
+    case!("Item { width: childrenRect.width; Item { anchors.right: parent.right; width: 5 } }" => &[(shown!(2, WIDTH), 0), (shown!(3, X), -5)],
+        &[found!(set!(2, WIDTH), &[shown!(2, CHILDREN_RECT_WIDTH), shown!(3, X), shown!(2, WIDTH)])], &[]),
+    // through two children
+    case!("Item { width: childrenRect.width; Item { anchors.left: b.right; width: 2 } Item { id: b; width: parent.width } }" => &[(shown!(2, WIDTH), 0), (shown!(3, X), 0)],
+        &[found!(set!(2, WIDTH), &[shown!(2, CHILDREN_RECT_WIDTH), shown!(3, X), shown!(4, WIDTH), set!(4, WIDTH), shown!(2, WIDTH)])], &[]),
+    // a child's own size is met first as its parent's rectangle asks for it, and the root's own as it is set
+    case!("Item { Item { width: width + 1 } }" => &[(shown!(3, WIDTH), 0), (set!(3, WIDTH), 1)], &[found!(shown!(3, WIDTH), &[set!(3, WIDTH)])], &[]),
+    case!("Item { width: width + 1 }" => &[(shown!(2, WIDTH), 0)], &[found!(set!(2, WIDTH), &[shown!(2, WIDTH)])], &[]),
+    // two siblings that are tied to each other
+    case!("Item { Item { id: a; anchors.left: b.right } Item { id: b; anchors.left: a.right } }" => &[(shown!(3, X), 0), (shown!(4, X), 0)],
+        &[found!(shown!(3, X), &[shown!(4, X)])], &[]),
+    // two loops, apart from each other, in the order in which they are met
+    case!("Item { property int a: b; property int b: a; property int c: d; property int d: c + 1 }" => &[(shown!(2, 39), 0), (shown!(2, 40), 1)],
+        &[found!(shown!(2, 37), &[shown!(2, 38)]), found!(shown!(2, 39), &[shown!(2, 40)])], &[]),
+    // of many places
+    case!("Item { property int a: b + 1; property int b: c + 1; property int c: d + 1; property int d: e + 1; property int e: a + 1 }" =>
+        &[(shown!(2, 37), 0), (shown!(2, 38), 4), (shown!(2, 41), 1)],
+        &[found!(shown!(2, 37), &[shown!(2, 38), shown!(2, 39), shown!(2, 40), shown!(2, 41)])], &[]),
 ];
 
 /// Whether a place holds that number.
@@ -141,7 +165,7 @@ fn settles(alloc: Global, case: &Case) -> Result<bool, DocFault> {
 fn documents_settle(rt: HostRuntime) -> Result<(), Fail> {
     for case in &CASES {
         let settled = settles(rt.alloc(), case)?;
-        assert!(rt; settled);
+        assert!(rt; settled, "{}", case.text);
     }
     Ok(())
 }

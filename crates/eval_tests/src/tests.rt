@@ -691,3 +691,272 @@ fn assignments(rt: HostRuntime) -> Result<(), Fail> {
     assert!(rt; plain && mouse && fixed && unknown && declares_again(rt.alloc())?);
     Ok(())
 }
+
+/// An operand of each kind, and of each truth that the kind has: its text in a document, its text form, what an
+/// expression gives that is this operand alone, and whether it counts as true.
+struct Operand {
+    source: &'static str,
+    text: &'static str,
+    shown: &'static str,
+    is_true: bool,
+}
+
+macro_rules! operand {
+    ($source:literal, $text:literal, $shown:literal, $is_true:literal) => {
+        Operand {
+            source: $source,
+            text: $text,
+            shown: $shown,
+            is_true: $is_true,
+        }
+    };
+}
+
+static OPERANDS: [Operand; 11] = [
+    operand!("7", "7", "7", true),
+    operand!("0", "0", "0", false),
+    operand!("true", "true", "true", true),
+    operand!("false", "false", "false", false),
+    operand!("'ab'", "ab", "'ab'", true),
+    operand!("''", "", "''", false),
+    operand!("col", "#112233", "#112233", true),
+    operand!("o", "object", "object", true),
+    operand!("null", "null", "null", false),
+    operand!("line", "line", "line", true),
+    operand!("undefined", "undefined", "undefined", false),
+];
+
+/// What an operator gives of two operands.
+#[derive(Clone, Copy)]
+enum Pair {
+    /// A number of numbers, or whether one holds; of other operands a wrong kind.
+    Numbers,
+    /// A number of numbers, and both texts where one is a text.
+    Joined,
+    /// This where the operands are the same, and the opposite otherwise.
+    Same(bool),
+    /// The left operand where it counts as this, and else the right one.
+    Deciding(bool),
+}
+
+/// An operator, and what it gives: of 7 and 7, 7 and 0, 0 and 7, and 0 and 0 these, where it is one of numbers.
+struct Operator {
+    mark: &'static str,
+    pair: Pair,
+    numbers: [&'static str; 4],
+}
+
+macro_rules! operator {
+    ($mark:literal, $pair:expr, $numbers:expr) => {
+        Operator {
+            mark: $mark,
+            pair: $pair,
+            numbers: $numbers,
+        }
+    };
+}
+
+const NONE: [&str; 4] = ["", "", "", ""];
+
+static OPERATORS: [Operator; 15] = [
+    operator!("+", Pair::Joined, ["14", "7", "7", "0"]),
+    operator!("-", Pair::Numbers, ["0", "7", "-7", "0"]),
+    operator!("*", Pair::Numbers, ["49", "0", "0", "0"]),
+    operator!(
+        "/",
+        Pair::Numbers,
+        ["1", "zero divisor", "0", "zero divisor"]
+    ),
+    operator!(
+        "%",
+        Pair::Numbers,
+        ["0", "zero divisor", "0", "zero divisor"]
+    ),
+    operator!("<", Pair::Numbers, ["false", "false", "true", "false"]),
+    operator!("<=", Pair::Numbers, ["true", "false", "true", "true"]),
+    operator!(">", Pair::Numbers, ["false", "true", "false", "false"]),
+    operator!(">=", Pair::Numbers, ["true", "true", "false", "true"]),
+    operator!("==", Pair::Same(true), NONE),
+    operator!("===", Pair::Same(true), NONE),
+    operator!("!=", Pair::Same(false), NONE),
+    operator!("!==", Pair::Same(false), NONE),
+    operator!("&&", Pair::Deciding(false), NONE),
+    operator!("||", Pair::Deciding(true), NONE),
+];
+
+/// What the operator gives of two numbers, and a wrong kind of others.
+fn of_numbers(found: &[&'static str; 4], left: &Operand, right: &Operand) -> &'static str {
+    let [both, by_zero, of_zero, zeros] = found;
+    match (left.source, right.source) {
+        ("7", "7") => both,
+        ("7", "0") => by_zero,
+        ("0", "7") => of_zero,
+        ("0", "0") => zeros,
+        _ => "wrong kind",
+    }
+}
+
+fn is_text(operand: &Operand) -> bool {
+    operand.source.starts_with('\'')
+}
+
+/// Both texts, as a text is shown.
+fn joined(alloc: Global, left: &Operand, right: &Operand) -> Result<String, Fail> {
+    let joined = format!(in alloc; "'{}{}'", left.text, right.text)?;
+    Ok(joined)
+}
+
+/// What the operator gives of these two.
+fn of_pair(
+    alloc: Global,
+    operator: &Operator,
+    left: &Operand,
+    right: &Operand,
+) -> Result<String, Fail> {
+    let told = match operator.pair {
+        Pair::Joined => {
+            if is_text(left) || is_text(right) {
+                return joined(alloc, left, right);
+            }
+            of_numbers(&operator.numbers, left, right)
+        }
+        Pair::Numbers => of_numbers(&operator.numbers, left, right),
+        Pair::Same(same) => {
+            if (left.source == right.source) == same {
+                "true"
+            } else {
+                "false"
+            }
+        }
+        Pair::Deciding(deciding) => {
+            if left.is_true == deciding {
+                left.shown
+            } else {
+                right.shown
+            }
+        }
+    };
+    Ok(String::from_str(alloc, told)?)
+}
+
+/// What the expression of a text gives, without the slots that were read.
+fn value_text(alloc: Global, text: &str, locals: &Locals, fake: &Fake) -> Result<String, Fail> {
+    let e = expression(alloc, text)?;
+    let mut trace = Trace::new(alloc);
+    let answer = eval(alloc, e.get(), FRAME, locals, fake, &mut trace)?;
+    answer_text(alloc, &answer)
+}
+
+/// The first right operand with which the operator gives something else behind this left one.
+fn wrong_right(
+    alloc: Global,
+    operator: &Operator,
+    left: &Operand,
+    fake: &Fake,
+) -> Result<Option<String>, Fail> {
+    let locals = Locals::new(alloc);
+    for right in &OPERANDS {
+        let text = format!(in alloc; "{} {} {}", left.source, operator.mark, right.source)?;
+        let found = value_text(alloc, text.as_str(), &locals, fake)?;
+        if found.as_str() != of_pair(alloc, operator, left, right)?.as_str() {
+            return Ok(Some(text));
+        }
+    }
+    Ok(None)
+}
+
+/// The first two operands of which the operator gives something else.
+fn wrong_pair(alloc: Global, operator: &Operator, fake: &Fake) -> Result<Option<String>, Fail> {
+    for left in &OPERANDS {
+        if let Some(text) = wrong_right(alloc, operator, left, fake)? {
+            return Ok(Some(text));
+        }
+    }
+    Ok(None)
+}
+
+/// All operators that give something else, with their operands.
+fn wrong_pairs(alloc: Global) -> Result<String, Fail> {
+    let fake = fake(alloc)?;
+    let mut told = String::new(alloc);
+    for operator in &OPERATORS {
+        if let Some(text) = wrong_pair(alloc, operator, &fake)? {
+            writeln!(told, "{text}")?;
+        }
+    }
+    Ok(told)
+}
+
+#[test]
+fn operators_of_each_kind(rt: HostRuntime) -> Result<(), Fail> {
+    assert_eq!(rt; wrong_pairs(rt.alloc())?.as_str(), "");
+    Ok(())
+}
+
+/// What comes before and behind an operand; what that gives of 7 and of 0; and of other operands that count as true and
+/// of such that do not.
+const SINGLES: &[(&str, &str, [&str; 4])] = &[
+    ("-", "", ["-7", "0", "wrong kind", "wrong kind"]),
+    ("+", "", ["7", "0", "wrong kind", "wrong kind"]),
+    ("!", "", ["false", "true", "false", "true"]),
+    ("!!", "", ["true", "false", "true", "false"]),
+    ("", " ? 1 : 2", ["1", "2", "1", "2"]),
+    ("Math.abs(", ")", ["7", "0", "wrong kind", "wrong kind"]),
+    ("Math.floor(", ")", ["7", "0", "wrong kind", "wrong kind"]),
+    ("Math.ceil(", ")", ["7", "0", "wrong kind", "wrong kind"]),
+    ("Math.round(", ")", ["7", "0", "wrong kind", "wrong kind"]),
+    ("Math.min(", ", 3)", ["3", "0", "wrong kind", "wrong kind"]),
+    ("Math.min(3, ", ")", ["3", "0", "wrong kind", "wrong kind"]),
+    ("Math.max(", ", 3)", ["7", "3", "wrong kind", "wrong kind"]),
+    ("Math.max(3, ", ")", ["7", "3", "wrong kind", "wrong kind"]),
+    // a call of what is no method
+    (
+        "(",
+        ")()",
+        ["wrong kind", "wrong kind", "wrong kind", "wrong kind"],
+    ),
+];
+
+/// What is wanted of this operand.
+fn of_single(found: &[&'static str; 4], operand: &Operand) -> &'static str {
+    let [seven, zero, others, empty] = found;
+    match operand.source {
+        "7" => seven,
+        "0" => zero,
+        _ => { if operand.is_true { others } else { empty } }
+    }
+}
+
+/// The first operand of which the row gives something else.
+fn wrong_single(
+    alloc: Global,
+    row: &(&str, &str, [&'static str; 4]),
+    fake: &Fake,
+) -> Result<Option<String>, Fail> {
+    let locals = Locals::new(alloc);
+    for operand in &OPERANDS {
+        let text = format!(in alloc; "{}{}{}", row.0, operand.source, row.1)?;
+        let found = value_text(alloc, text.as_str(), &locals, fake)?;
+        if found.as_str() != of_single(&row.2, operand) {
+            return Ok(Some(text));
+        }
+    }
+    Ok(None)
+}
+
+fn wrong_singles(alloc: Global) -> Result<String, Fail> {
+    let fake = fake(alloc)?;
+    let mut told = String::new(alloc);
+    for row in SINGLES {
+        if let Some(text) = wrong_single(alloc, row, &fake)? {
+            writeln!(told, "{text}")?;
+        }
+    }
+    Ok(told)
+}
+
+#[test]
+fn signs_and_functions_of_each_kind(rt: HostRuntime) -> Result<(), Fail> {
+    assert_eq!(rt; wrong_singles(rt.alloc())?.as_str(), "");
+    Ok(())
+}

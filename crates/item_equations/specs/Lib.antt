@@ -10,3 +10,5 @@ pub mod Children
 pub mod Native
 pub mod Ignored
 pub mod Values
+pub mod Codes
+pub mod Progress

@@ -2,9 +2,11 @@ ghost use Rattle.std.specs.Prelude.{◌≡◌, Option, ◌-ℤ◌};
 ghost use Rattle.qml_ast.specs.declared.place.Place.{Place};
 ghost use Rattle.qml_ast.specs.declared.value.Value.{Value};
 ghost use Rattle.item_equations.specs.Asking.{sight, walk};
+ghost use Rattle.item_equations.specs.Progress.{IsLeast, IsExtent};
 ghost use Rattle.item_equations.specs.Children.{is_child, least, least_with, least_from, span, joined, widened, extent_with, extent_from, or_none, ranged, length_of, children_place, children_size};
 
 use crate::axis::Axis;
+use crate::progress::Progress;
 use crate::reading::{number, shown_of};
 use crate::stop::Stop;
 use crate::view::ItemReader;
@@ -59,21 +61,24 @@ fn least_with<R: ItemReader>(
     Ok(Some(least(before, place)))
 }
 
-// The least place of the items among these objects.
+// The least place of the items among these objects, of which some were met. Where it stops, it says how far it came.
 #[tactic(auto, using(crate::proofs::Walks::steps, crate::proofs::Folds::least_steps))]
 fn least_of<R: ItemReader>(
     reader: &R,
     axis: Axis,
     item: u64,
     objects: &[u64],
+    far: &mut Progress,
 ) -> Result<Option<i32>, Stop>
-    ensures { walk (sight (R.clean reader.now) (R.means reader.now)) (least_from (R.family reader.now) axis item None objects.now) ≡ result }
+    requires { IsLeast (sight (R.clean reader.now) (R.means reader.now)) (R.family reader.now) axis item objects.now far.old }
+    ensures least { walk (sight (R.clean reader.now) (R.means reader.now)) (least_from (R.family reader.now) axis item None objects.now) ≡ result }
+    ensures met { IsLeast (sight (R.clean reader.now) (R.means reader.now)) (R.family reader.now) axis item objects.now far.new }
 {
-    let mut before = None;
-    for object in objects {
-        before = least_with(reader, axis, item, before, *object)?;
+    for index in far.met..objects.len() {
+        far.least = least_with(reader, axis, item, far.least, objects[index])?;
+        far.met = index + 1;
     }
-    Ok(before)
+    Ok(far.least)
 }
 
 // Where an item begins and ends.
@@ -127,29 +132,39 @@ fn extent_with<R: ItemReader>(
     Ok(Some(widened(before, span(place, size))))
 }
 
-// Where the items among these objects begin and end.
+// Where the items among these objects begin and end, of which some were met. Where it stops, it says how far it came.
 #[tactic(auto, using(crate::proofs::Walks::steps, crate::proofs::Folds::extent_steps))]
 fn extent_of<R: ItemReader>(
     reader: &R,
     axis: Axis,
     item: u64,
     objects: &[u64],
+    far: &mut Progress,
 ) -> Result<Option<Extent>, Stop>
-    ensures { walk (sight (R.clean reader.now) (R.means reader.now)) (extent_from (R.family reader.now) axis item None objects.now) ≡ result }
+    requires { IsExtent (sight (R.clean reader.now) (R.means reader.now)) (R.family reader.now) axis item objects.now far.old }
+    ensures extent { walk (sight (R.clean reader.now) (R.means reader.now)) (extent_from (R.family reader.now) axis item None objects.now) ≡ result }
+    ensures met { IsExtent (sight (R.clean reader.now) (R.means reader.now)) (R.family reader.now) axis item objects.now far.new }
 {
-    let mut before = None;
-    for object in objects {
-        before = extent_with(reader, axis, item, before, *object)?;
+    for index in far.met..objects.len() {
+        far.extent = extent_with(reader, axis, item, far.extent, objects[index])?;
+        far.met = index + 1;
     }
-    Ok(before)
+    Ok(far.extent)
 }
 
 /// Where the items in an item begin on an axis; 0 where there are none.
 #[tactic(auto, using(crate::proofs::Walks::steps), unfolding(crate::specs::Children::children_place))]
-pub(crate) fn children_place<R: ItemReader>(reader: &R, axis: Axis, item: u64) -> Result<i32, Stop>
-    ensures { walk (sight (R.clean reader.now) (R.means reader.now)) (children_place (R.family reader.now) axis item) ≡ result }
+pub(crate) fn children_place<R: ItemReader>(
+    reader: &R,
+    axis: Axis,
+    item: u64,
+    far: &mut Progress,
+) -> Result<i32, Stop>
+    requires { IsLeast (sight (R.clean reader.now) (R.means reader.now)) (R.family reader.now) axis item ((R.family reader.now).owned item) far.old }
+    ensures place { walk (sight (R.clean reader.now) (R.means reader.now)) (children_place (R.family reader.now) axis item) ≡ result }
+    ensures met { IsLeast (sight (R.clean reader.now) (R.means reader.now)) (R.family reader.now) axis item ((R.family reader.now).owned item) far.new }
 {
-    let found = least_of(reader, axis, item, reader.owned(item))?;
+    let found = least_of(reader, axis, item, reader.owned(item), far)?;
     Ok(found.unwrap_or(0))
 }
 
@@ -179,9 +194,16 @@ fn length_of(extent: Option<Extent>) -> Result<i32, Stop>
 /// How far the items in an item reach on an axis, from where the first of them begins to where the last one ends;
 /// 0 where there are none.
 #[tactic(auto, using(crate::proofs::Walks::steps), unfolding(crate::specs::Children::children_size))]
-pub(crate) fn children_size<R: ItemReader>(reader: &R, axis: Axis, item: u64) -> Result<i32, Stop>
-    ensures { walk (sight (R.clean reader.now) (R.means reader.now)) (children_size (R.family reader.now) axis item) ≡ result }
+pub(crate) fn children_size<R: ItemReader>(
+    reader: &R,
+    axis: Axis,
+    item: u64,
+    far: &mut Progress,
+) -> Result<i32, Stop>
+    requires { IsExtent (sight (R.clean reader.now) (R.means reader.now)) (R.family reader.now) axis item ((R.family reader.now).owned item) far.old }
+    ensures size { walk (sight (R.clean reader.now) (R.means reader.now)) (children_size (R.family reader.now) axis item) ≡ result }
+    ensures met { IsExtent (sight (R.clean reader.now) (R.means reader.now)) (R.family reader.now) axis item ((R.family reader.now).owned item) far.new }
 {
-    let found = extent_of(reader, axis, item, reader.owned(item))?;
+    let found = extent_of(reader, axis, item, reader.owned(item), far)?;
     length_of(found)
 }

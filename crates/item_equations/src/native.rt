@@ -1,9 +1,11 @@
 ghost use Rattle.std.specs.Prelude.{◌≡◌};
 ghost use Rattle.item_equations.specs.Asking.{sight, walk};
 ghost use Rattle.item_equations.specs.Native.{native_of, equation};
+ghost use Rattle.item_equations.specs.Progress.{IsMet};
 
 use crate::axis::Axis;
 use crate::children::{children_place, children_size};
+use crate::progress::Progress;
 use crate::shown::{implicit_size, inherited, shown_place, shown_size};
 use crate::stop::Stop;
 use crate::view::ItemReader;
@@ -62,16 +64,26 @@ pub fn native_of(slot: u32) -> Option<Native>
 
 /// What an item's slot shows by its equation, over the places that have a value already. It stops at the first
 /// place that it reads and that has none, and where its value leaves the range of an `i32`.
+///
+/// An evaluation that stopped before goes on from how far it had come, where the places have the same values still,
+/// and gives what it would give from its beginning.
 #[tactic(auto, using(crate::proofs::Walks::steps), unfolding(crate::specs::Native::equation))]
-pub fn evaluate<R: ItemReader>(reader: &R, native: Native, item: u64) -> Result<Value, Stop>
-    ensures { walk (sight (R.clean reader.now) (R.means reader.now)) (equation (R.family reader.now) native item) ≡ result }
+pub fn evaluate<R: ItemReader>(
+    reader: &R,
+    native: Native,
+    item: u64,
+    far: &mut Progress,
+) -> Result<Value, Stop>
+    requires { IsMet (sight (R.clean reader.now) (R.means reader.now)) (R.family reader.now) native item far.old }
+    ensures value { walk (sight (R.clean reader.now) (R.means reader.now)) (equation (R.family reader.now) native item) ≡ result }
+    ensures met { IsMet (sight (R.clean reader.now) (R.means reader.now)) (R.family reader.now) native item far.new }
 {
     match native {
         Native::Place(axis) => Ok(Value::Int(shown_place(reader, axis, item)?)),
         Native::Size(axis) => Ok(Value::Int(shown_size(reader, axis, item)?)),
         Native::ImplicitSize(axis) => Ok(Value::Int(implicit_size(reader, axis, item)?)),
         Native::Inherited(slot) => Ok(Value::Bool(inherited(reader, slot, item)?)),
-        Native::ChildrenPlace(axis) => Ok(Value::Int(children_place(reader, axis, item)?)),
-        Native::ChildrenSize(axis) => Ok(Value::Int(children_size(reader, axis, item)?)),
+        Native::ChildrenPlace(axis) => Ok(Value::Int(children_place(reader, axis, item, far)?)),
+        Native::ChildrenSize(axis) => Ok(Value::Int(children_size(reader, axis, item, far)?)),
     }
 }

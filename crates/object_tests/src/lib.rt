@@ -1,5 +1,5 @@
 //! Tests of objects: what is made of documents, what names stand for in them, what is run of them, and what calls
-//! leave.
+//! leave, also where memory runs out.
 #![tactic(auto)]
 
 #[cfg(test)]
@@ -10,3 +10,5 @@ mod makes;
 mod runs;
 #[cfg(test)]
 mod store;
+#[cfg(test)]
+mod undoing;

@@ -8,3 +8,6 @@ pub mod Resumed
 pub mod Listed
 pub mod Rising
 pub mod Kept
+pub mod Undone
+pub mod Documents
+pub mod Onward

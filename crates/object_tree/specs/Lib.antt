@@ -17,5 +17,6 @@ pub mod Handlers
 pub mod First
 pub mod Settled
 pub mod Limits
+pub mod Undoing
 pub mod Taking
 pub mod Origins

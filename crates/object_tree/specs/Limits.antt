@@ -38,8 +38,7 @@ Tells fault (Ok serial) = fault ≡ None
 Tells fault (Err NoMemory) = Unit {0}
 Tells fault (Err f) = fault ≡ Some f
 
--- what becomes of the store: after a refusal it is as before, and nothing is known where memory ran out
+-- what becomes of the store: where nothing is made, it is as before
 abbrev pub Makes : ComponentType → ℕ → Option ℕ → Store → Store → Result ℕ MakeFault → Type 0
 Makes component parent around before after (Ok serial) = (serial ≡ next_serial before) × (after ≡ grown component parent around before)
-Makes component parent around before after (Err NoMemory) = Unit {0}
 Makes component parent around before after (Err f) = after ≡ before

@@ -20,6 +20,7 @@ mod resuming;
 pub mod row;
 pub mod settled;
 mod taking;
+mod undoing;
 mod writing;
 
 pub use context::Context;

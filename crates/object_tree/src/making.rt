@@ -1,4 +1,4 @@
-ghost use Rattle.std.specs.Prelude.{◌≡◌, ◌-◌, Some, None, if◌then◌else◌, length, option_copied, slice_get, unwrap_or, OnOk, IfOk};
+ghost use Rattle.std.specs.Prelude.{◌≡◌, ◌-◌, Some, None, if◌then◌else◌, length, option_copied, slice_get, unwrap_or, OnOk, OnErr, IfOk};
 ghost use Rattle.std.specs.Option.{option_map};
 ghost use Rattle.object_tree.specs.Reading.{instance_at};
 ghost use Rattle.object_tree.specs.Store.{Store};
@@ -9,6 +9,7 @@ ghost use Rattle.qml_types.specs.Sized.{IsSized};
 ghost use Rattle.qml_types.specs.declared.component.ObjectDecl.{out-ObjectDecl};
 ghost use Rattle.object_tree.specs.Growing.{grown};
 ghost use Rattle.object_tree.specs.Limits.{is_full, depth_of, is_deep, make_fault, Tells, Makes};
+ghost use Rattle.object_tree.specs.Undoing.{GoesOn, Anywhere, IsNew, IsOwner, AreNew, IsLastOf, documents_of, documents_under};
 
 use crate::context::Context;
 use crate::declaring::{is_child, new_properties};
@@ -104,29 +105,39 @@ impl Instance {
         property.show_object(parent);
     }
 
-    // Owns one more object.
+    // Owns one more object. Where memory runs out, nothing has changed.
     fn add_child(&mut self, serial: u64) -> Result<(), AllocError>
-        ensures { OnOk result (self.new ≡ with_child serial self.old) }
+        ensures ok { OnOk result (self.new ≡ with_child serial self.old) }
+        ensures err { OnErr result (self.new ≡ self.old) }
     {
         self.children.push(serial)
     }
 }
 
 impl Context {
-    // Has one more object.
+    // Says what an id stands for, if there is one.
+    fn add_id(&mut self, alloc: Global, serial: u64, id: Option<&Name>) -> Result<(), AllocError>
+        ensures ok { OnOk result (self.new ≡ with_id serial (option_copied id.entry) self.old) }
+        ensures serials { self.new.serials ≡ self.old.serials }
+    {
+        match id {
+            Some(id) => self.ids.insert(id.copy(alloc)?, serial),
+            None => Ok(()),
+        }
+    }
+
+    // Has one more object. Where memory runs out, it has none more.
     fn add_serial(
         &mut self,
         alloc: Global,
         serial: u64,
         id: Option<&Name>,
     ) -> Result<(), AllocError>
-        ensures { OnOk result (self.new ≡ with_serial serial (option_copied id.entry) self.old) }
+        ensures ok { OnOk result (self.new ≡ with_serial serial (option_copied id.entry) self.old) }
+        ensures err { OnErr result (self.new.serials ≡ self.old.serials) }
     {
-        self.serials.push(serial)?;
-        match id {
-            Some(id) => self.ids.insert(id.copy(alloc)?, serial),
-            None => Ok(()),
-        }
+        self.add_id(alloc, serial, id)?;
+        self.serials.push(serial)
     }
 }
 
@@ -150,7 +161,8 @@ impl Objects {
         parent: u64,
         as_child: bool,
     ) -> Result<(), AllocError>
-        ensures { OnOk result (self.new ≡ born built_in parent as_child self.old) }
+        ensures born { OnOk result (self.new ≡ born built_in parent as_child self.old) }
+        ensures goes_on { GoesOn (IsOwner parent) self.old self.new }
     {
         let serial = self.next_serial()?;
         let above = self.objects.get(parent);
@@ -186,7 +198,8 @@ impl Objects {
         component: &Shared<ComponentType>,
         around: Option<u64>,
     ) -> Result<(), AllocError>
-        ensures { OnOk result (self.new ≡ with_context (new_context component.now around) self.old) }
+        ensures added { OnOk result (self.new ≡ with_context (new_context component.now around) self.old) }
+        ensures goes_on { GoesOn Anywhere self.old self.new }
     {
         self.contexts.push(Context {
             component: component.share()?,
@@ -204,7 +217,8 @@ impl Objects {
         serial: u64,
         id: Option<&Name>,
     ) -> Result<(), AllocError>
-        ensures { OnOk result (self.new ≡ with_changed_context (with_serial serial (option_copied id.entry)) number self.old) }
+        ensures added { OnOk result (self.new ≡ with_changed_context (with_serial serial (option_copied id.entry)) number self.old) }
+        ensures goes_on { GoesOn (AreNew number serial) self.old self.new }
     {
         let Some(context) = self.contexts.get_mut(number.saturating_sub(1) as usize) else {
             return Ok(());
@@ -251,7 +265,8 @@ impl Objects {
         number: u64,
         serial: u64,
     ) -> Result<(), AllocError>
-        ensures { OnOk result (self.new ≡ declared component.now decl.now number serial self.old) }
+        ensures declared { OnOk result (self.new ≡ declared component.now decl.now number serial self.old) }
+        ensures goes_on { GoesOn (AreNew number serial) self.old self.new }
     {
         let layer = Layer {
             component: component.share()?,
@@ -268,7 +283,8 @@ impl Objects {
 
     // Gives an object to the slot of its owner whose value it is, if it is one.
     fn give_object(&mut self, number: u64, serial: u64, role: &Role, owner: u64)
-        ensures { self.new ≡ with_instance (given_object number serial role.now) owner self.old }
+        ensures given { self.new ≡ with_instance (given_object number serial role.now) owner self.old }
+        ensures goes_on { GoesOn (λ _ first. IsNew owner first) self.old self.new }
     {
         let Some(instance) = self.objects.get_mut(owner) else {
             return;
@@ -296,7 +312,8 @@ impl Objects {
         as_child: bool,
         around: Option<u64>,
     ) -> Result<(), AllocError>
-        ensures { OnOk result (self.new ≡ (grower_of component.now).rooted parent as_child around self.old) }
+        ensures rooted { OnOk result (self.new ≡ (grower_of component.now).rooted parent as_child around self.old) }
+        ensures goes_on { GoesOn (IsOwner parent) self.old self.new }
     {
         let [root, ..] = component.get().objects.as_slice() else {
             return Ok(());
@@ -317,7 +334,8 @@ impl Objects {
         parent: u64,
         as_child: bool,
     ) -> Result<(), AllocError>
-        ensures { OnOk result (self.new ≡ (grower_under base.now).rooted parent as_child None self.old) }
+        ensures rooted { OnOk result (self.new ≡ (grower_under base.now).rooted parent as_child None self.old) }
+        ensures goes_on { GoesOn (IsOwner parent) self.old self.new }
     {
         match base {
             Base::BuiltIn(built_in) => self.born(alloc, *built_in, parent, as_child),
@@ -334,7 +352,8 @@ impl Objects {
         number: u64,
         serial: u64,
     ) -> Result<(), AllocError>
-        ensures { OnOk result (self.new ≡ (grower_of component.now).below number serial self.old) }
+        ensures grown { OnOk result (self.new ≡ (grower_of component.now).below number serial self.old) }
+        ensures goes_on { GoesOn (IsLastOf (documents_of component.now) number) self.old self.new }
     {
         let [root, objects @ ..] = component.get().objects.as_slice() else {
             return Ok(());
@@ -356,7 +375,8 @@ impl Objects {
         number: u64,
         serial: u64,
     ) -> Result<(), AllocError>
-        ensures { OnOk result (self.new ≡ (grower_under base.now).below number serial self.old) }
+        ensures grown { OnOk result (self.new ≡ (grower_under base.now).below number serial self.old) }
+        ensures goes_on { GoesOn (IsLastOf (documents_under base.now) number) self.old self.new }
     {
         match base {
             Base::BuiltIn(_) => Ok(()),
@@ -377,6 +397,7 @@ impl Objects {
         ensures serial { IfOk result (λ placed. placed.serial ≡ next_serial self.old) }
         ensures last { IfOk result (λ placed. placed.last ≡ last_context (object_rooted number object.now (grower_under (out-ObjectDecl object.now).base) self.old)) }
         ensures placed { OnOk result (self.new ≡ object_placed component.now number object.now (grower_under (out-ObjectDecl object.now).base) self.old) }
+        ensures goes_on { GoesOn (IsLastOf 1 number) self.old self.new }
     {
         let owner = self.owner_in(object, number);
         let serial = self.next_serial()?;
@@ -435,6 +456,7 @@ impl Objects {
     ) -> Result<u64, AllocError>
         ensures serial { IfOk result (λ serial. serial ≡ next_serial self.old) }
         ensures grown { OnOk result (self.new ≡ grown component.now parent around self.old) }
+        ensures goes_on { GoesOn (IsOwner parent) self.old self.new }
     {
         let serial = self.next_serial()?;
         self.add_root(alloc, component, parent, true, around)?;
@@ -453,7 +475,9 @@ impl Objects {
     /// - `Full`: exactly where there would be more than 100,000 live objects, or more serials or contexts than have
     ///   numbers.
     /// - `Deep`: else, exactly where an object would stand more than 256 levels below its content item.
-    /// - `NoMemory`: memory ran out. Nothing is known of the objects then; after the other errors they are as before.
+    /// - `NoMemory`: memory ran out.
+    ///
+    /// After each of them all is as before.
     #[tactic(auto, unfolding(crate::specs::Limits::make_fault))]
     pub fn make(
         &mut self,
@@ -472,7 +496,13 @@ impl Objects {
         if self.is_deep(component.get(), parent) {
             return Err(MakeFault::Deep);
         }
-        let serial = self.grow(alloc, component, parent, around)?;
-        Ok(serial)
+        let mark = self.mark(parent);
+        match self.grow(alloc, component, parent, around) {
+            Ok(serial) => Ok(serial),
+            Err(AllocError) => {
+                self.undo(mark);
+                Err(MakeFault::NoMemory)
+            }
+        }
     }
 }

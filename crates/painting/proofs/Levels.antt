@@ -8,21 +8,21 @@ use Rattle.painting.specs.declared.viewport.Viewport.{Viewport}
 use Rattle.painting.specs.Painting.{Tree, painted_part, inside, content, painted_item, paint_within, IsOnLevels}
 
 -- lists are joined from the same pieces
-same_pieces : (f g : ℕ → List Painted) (xs : List ℕ) → ((place x : ℕ) → slice_get xs place ≡ Some x → f x ≡ g x) → flat_map f xs ≡ flat_map g xs
+pub same_pieces : (f g : ℕ → List Painted) (xs : List ℕ) → ((place x : ℕ) → slice_get xs place ≡ Some x → f x ≡ g x) → flat_map f xs ≡ flat_map g xs
 same_pieces f g [] same = refl
 same_pieces f g (x ∷ xs) same =
     (λ i. same 0 x refl i ++ flat_map f xs)
     ∙ ap (λ ys. g x ++ ys) (same_pieces f g xs (λ place y at. same (place + 1) y (rw add-one at)))
 
 -- an item of a part of the list is one of the list
-get_in_take : (n place : ℕ) (xs : List ℕ) (x : ℕ) → slice_get (take n xs) place ≡ Some x → slice_get xs place ≡ Some x
+pub get_in_take : (n place : ℕ) (xs : List ℕ) (x : ℕ) → slice_get (take n xs) place ≡ Some x → slice_get xs place ≡ Some x
 get_in_take zero place [] x at = at
 get_in_take zero place (y ∷ ys) x at = cc
 get_in_take (suc n) place [] x at = at
 get_in_take (suc n) zero (y ∷ ys) x at = at
 get_in_take (suc n) (suc place) (y ∷ ys) x at = get_in_take n place ys x at
 
-get_in_drop : (n place : ℕ) (xs : List ℕ) (x : ℕ) → slice_get (drop n xs) place ≡ Some x → slice_get xs (n + place) ≡ Some x
+pub get_in_drop : (n place : ℕ) (xs : List ℕ) (x : ℕ) → slice_get (drop n xs) place ≡ Some x → slice_get xs (n + place) ≡ Some x
 get_in_drop zero place xs x at = rw zero-add at
 get_in_drop (suc n) place [] x at = cc
 get_in_drop (suc n) place (y ∷ ys) x at = rw suc-add (get_in_drop n place ys x at)

@@ -1,5 +1,5 @@
 -- What a tree of items is painted as.
-use Rattle.std.specs.Prelude.{◌≡◌, ℕ, zero, suc, ℤ, pos, ◌+ℤ◌, true, if◌then◌else◌, Option, Some, None, List, [], ◌++◌, map, take, drop, flat_map, slice_get}
+use Rattle.std.specs.Prelude.{◌≡◌, ℕ, zero, suc, ℤ, pos, ◌+ℤ◌, Bool, true, if◌then◌else◌, Option, Some, None, List, [], ◌++◌, map, take, drop, flat_map, slice_get}
 use Rattle.item_geometry.specs.declared.clip_rect.ClipRect.{ClipRect}
 use Rattle.item_geometry.specs.declared.parts.RectPart.{RectPart}
 use Rattle.item_geometry.specs.Clip.{common, has_point}
@@ -37,12 +37,17 @@ abbrev pub painted_part : Viewport → RectPart → Painted
 painted_part viewport part = painted_of (seen viewport.clip (area_at viewport part.x part.y part.w part.h)) part.argb
 
 -- ---- items
--- the viewport of an item in that of its parent: moved by x and y, and cut to its rectangle where it clips
-abbrev pub clip_in : Viewport → Paint → Option ClipRect
-clip_in viewport item = if item.clip then Some (seen viewport.clip (area_at viewport item.x item.y item.w item.h)) else viewport.clip
+-- the viewport of what stands in a rectangle of another viewport: moved by x and y, and cut to the rectangle
+-- where it clips
+abbrev pub clip_within : Viewport → ℤ → ℤ → ℤ → ℤ → Bool → Option ClipRect
+clip_within viewport x y w h clip = if clip then Some (seen viewport.clip (area_at viewport x y w h)) else viewport.clip
 
+abbrev pub within : Viewport → ℤ → ℤ → ℤ → ℤ → Bool → Viewport
+within viewport x y w h clip = record { left = viewport.left +ℤ x; top = viewport.top +ℤ y; clip = clip_within viewport x y w h clip }
+
+-- the viewport of an item in that of its parent
 abbrev pub inside : Viewport → Paint → Viewport
-inside viewport item = record { left = viewport.left +ℤ item.x; top = viewport.top +ℤ item.y; clip = clip_in viewport item }
+inside viewport item = within viewport item.x item.y item.w item.h item.clip
 
 -- what is painted in an item's viewport: the children that come under its own rectangles, these, and the
 -- other children, each as `below` paints it

@@ -1,6 +1,6 @@
 ghost use Rattle.std.specs.Prelude.{◌≡◌, ◌+◌, ◌<◌, ◌≤◌, ◌+ℤ◌};
 ghost use Rattle.painting.specs.Reach.{IsNear, IsWithin};
-ghost use Rattle.painting.specs.Painting.{rect_of, area_at, seen, clip_in, inside, painted_part, window};
+ghost use Rattle.painting.specs.Painting.{rect_of, area_at, seen, clip_within, within, inside, painted_part, window};
 
 use crate::painted::Painted;
 use crate::viewport::Viewport;
@@ -10,15 +10,15 @@ use scene::Paint;
 /// How many levels of items are painted: the content item, and 256 below it.
 const MOST_LEVELS: u32 = 257;
 
-/// A viewport, and how many levels of items may be painted in it. As no item stands farther than 2^31 pixels
-/// from its parent's edge, each place in it is an `i64`.
+/// A viewport, and how many levels of items or nodes may be painted in it. As none stands farther than 2^31
+/// pixels from its parent's edge, each place in it is an `i64`.
 #[derive(Clone, Copy)]
 pub struct Reach {
-    /// Where the items are painted.
+    /// Where they are painted.
     pub viewport: Viewport,
-    /// How many levels there may be, 257 at most.
+    /// How many levels there may be, 258 at most.
     pub levels: u32,
-    ghost few: { levels ≤ 257 },
+    ghost few: { levels ≤ 258 },
     ghost across: { IsNear levels viewport.left },
     ghost down: { IsNear levels viewport.top },
 }
@@ -54,10 +54,11 @@ fn seen(clip: Option<ClipRect>, area: ClipRect) -> ClipRect
 }
 
 impl Reach {
-    /// The whole window, in which the content item stands.
-    pub fn window() -> Reach
+    /// The whole window, with so many levels.
+    pub fn on_levels(levels: u32) -> Reach
+        requires { levels ≤ 258 }
         ensures viewport { result.viewport ≡ window }
-        ensures levels { result.levels ≡ 257 }
+        ensures levels { result.levels ≡ levels }
     {
         Reach {
             viewport: Viewport {
@@ -65,8 +66,16 @@ impl Reach {
                 top: 0,
                 clip: None,
             },
-            levels: MOST_LEVELS,
+            levels,
         }
+    }
+
+    /// The whole window, in which the content item stands.
+    pub fn window() -> Reach
+        ensures viewport { result.viewport ≡ window }
+        ensures levels { result.levels ≡ 257 }
+    {
+        Reach::on_levels(MOST_LEVELS)
     }
 
     /// What is seen of a rectangle that begins at a place of the item and has so many columns and rows.
@@ -93,14 +102,31 @@ impl Reach {
         }
     }
 
-    /// What is seen in an item that stands here.
-    fn clip_in(&self, item: &Paint) -> Option<ClipRect>
-        ensures { result ≡ clip_in self.now.viewport item.now }
+    /// What is seen of what stands in a rectangle that begins at a place of the item, and that may clip.
+    fn clip_within(&self, x: i32, y: i32, w: i32, h: i32, clip: bool) -> Option<ClipRect>
+        ensures { result ≡ clip_within self.now.viewport x y w h clip }
     {
-        if item.clip {
-            Some(self.area(item.x, item.y, item.w, item.h))
+        if clip {
+            Some(self.area(x, y, w, h))
         } else {
             self.viewport.clip
+        }
+    }
+
+    /// The viewport of what stands in a rectangle here: moved by x and y, and cut to the rectangle where it
+    /// clips.
+    pub fn within(&self, x: i32, y: i32, w: i32, h: i32, clip: bool) -> Reach
+        requires { 0 < self.now.levels }
+        ensures viewport { result.viewport ≡ within self.now.viewport x y w h clip }
+        ensures levels { result.levels + 1 ≡ self.now.levels }
+    {
+        Reach {
+            viewport: Viewport {
+                left: on(self.viewport.left, x),
+                top: on(self.viewport.top, y),
+                clip: self.clip_within(x, y, w, h, clip),
+            },
+            levels: self.levels - 1,
         }
     }
 
@@ -110,13 +136,6 @@ impl Reach {
         ensures viewport { result.viewport ≡ inside self.now.viewport item.now }
         ensures levels { result.levels + 1 ≡ self.now.levels }
     {
-        Reach {
-            viewport: Viewport {
-                left: on(self.viewport.left, item.x),
-                top: on(self.viewport.top, item.y),
-                clip: self.clip_in(item),
-            },
-            levels: self.levels - 1,
-        }
+        self.within(item.x, item.y, item.w, item.h, item.clip)
     }
 }

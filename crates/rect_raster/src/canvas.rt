@@ -71,6 +71,13 @@ pub fn fill(canvas: &mut Canvas, rect: ClipRect, argb: u32)
     paint_area(&mut canvas.pixels, width, area, argb);
 }
 
+/// Makes each pixel of a canvas white, whatever it showed.
+pub fn clear(canvas: &mut Canvas)
+    ensures { canvas.new ≡ drawing canvas.old.width canvas.old.height [] }
+{
+    canvas.pixels.fill(255);
+}
+
 /// Writes a canvas as a binary pixmap, Netpbm's P6. It fails where a write of the sink failed, and the
 /// sink has then got the pixmap's first bytes, maybe none.
 pub fn write_ppm<S: Sink>(canvas: &Canvas, sink: &mut S) -> Result<(), SinkFailed>

@@ -5,5 +5,5 @@ mod area;
 mod bytes;
 pub mod canvas;
 
-pub use canvas::{Canvas, fill, write_ppm};
+pub use canvas::{Canvas, clear, fill, write_ppm};
 pub use item_geometry::ClipRect;

@@ -135,6 +135,97 @@ fn statements_fault(rt: HostRuntime) -> Result<(), Fail> {
     Ok(())
 }
 
+/// What stands before and behind an expression that a handler evaluates.
+const POSITIONS: &[(&str, &str)] = &[
+    ("", ""),
+    ("v = ", ""),
+    ("v += ", ""),
+    ("var k = ", ""),
+    ("const k = ", ""),
+    ("var k = 1; k -= ", ""),
+    ("return ", ""),
+    ("if (", ") ;"),
+    ("if (false) ; else if (", ") ;"),
+    ("while (", ") ;"),
+    ("for (var i = ", "; ; ) ;"),
+    ("for (v = ", "; ; ) ;"),
+    ("for (; ", "; ) ;"),
+    ("for (; ; v = ", ") ;"),
+    ("for (; ; ) { ", " }"),
+    ("{ { ", " } }"),
+    ("if (true) v = ", ""),
+    ("f(", ")"),
+    ("f(f(", "))"),
+    ("v = 1 + f(", ")"),
+    ("hit(", ")"),
+    ("console.log(1, ", ")"),
+    ("v = true && ", ""),
+    ("v = false || ", ""),
+    ("v = true ? ", " : 1"),
+];
+
+/// A statement that runs before, an expression, and its fault.
+const EXPRESSIONS: &[(&str, &str, &str)] = &[
+    ("", "(2147483647 + 1)", "overflow"),
+    ("", "(1 / 0)", "zero divisor"),
+    ("", "(1 - 'a')", "wrong kind"),
+    ("", "f", "wrong kind"),
+    ("", "nope", "unknown name"),
+    ("", "o.width", "member of null"),
+    ("", "(0 + down(64))", "too much"),
+    (
+        "long = 'aaaaaaaa'; for (var i = 0; i < 13; i++) long += long",
+        "(long + 'a')",
+        "text too long",
+    ),
+];
+
+/// A handler for each position, each in a line of its own.
+fn handlers(alloc: Global, expression: &str) -> Result<String, DocFault> {
+    let mut text = String::new(alloc);
+    for (before, behind) in POSITIONS {
+        text.push_str("Component.onCompleted: { ")?;
+        text.push_str(before)?;
+        text.push_str(expression)?;
+        text.push_str(behind)?;
+        text.push_str("; console.log('never') }\n")?;
+    }
+    Ok(text)
+}
+
+/// That fault at the handler of each position, of which the first stands in the second line.
+fn faults(alloc: Global, fault: &str) -> Result<String, DocFault> {
+    let mut told = String::new(alloc);
+    let mut line: u32 = 1;
+    for _ in POSITIONS {
+        line = line.saturating_add(1);
+        let note = format!(in alloc; "Main.qml:{line}:1: evaluation fault: {fault}\n")?;
+        told.push_str(note.as_str())?;
+    }
+    told.push_str("qml: next 1\n")?;
+    Ok(told)
+}
+
+/// Whether that fault ends the handler in each position, with nothing written before.
+fn faults_everywhere(alloc: Global, row: &(&str, &str, &str)) -> Result<bool, DocFault> {
+    let handlers = handlers(alloc, row.1)?;
+    let text = format!(in alloc;
+        "Item {{ id: r; property var v: 1; property Item o; property string long; signal hit(var k); \
+        onHit: console.log('never'); function f(a) {{ return a }} function down(a) {{ return a == 0 ? 0 : down(a - 1) }} \
+        Component.onCompleted: {{ {} }}\n{handlers}Component.onCompleted: console.log('next', v) }}",
+        row.0
+    )?;
+    Ok(notes(alloc, NONE, text.as_str())?.as_str() == faults(alloc, row.2)?.as_str())
+}
+
+#[test]
+fn each_fault_in_each_position(rt: HostRuntime) -> Result<(), Fail> {
+    for row in EXPRESSIONS {
+        assert!(rt; faults_everywhere(rt.alloc(), row)?, "{}", row.1);
+    }
+    Ok(())
+}
+
 /// What `A.qml` and `Main.qml` are, and what is noted where `Main.qml` starts.
 const DOCUMENTS: &[(&str, &str, &str)] = &[
     // a fault ends its handler alone, and what it did stands

@@ -12,6 +12,10 @@ mod limits;
 #[cfg(test)]
 mod logs;
 #[cfg(test)]
+mod mouse;
+#[cfg(test)]
 mod statements;
 #[cfg(test)]
 mod worlds;
+#[cfg(test)]
+mod writes;

@@ -92,3 +92,132 @@ fn a_move_begins_anew(rt: HostRuntime) -> Result<(), Fail> {
     assert!(rt; runs_again(rt.alloc())?);
     Ok(())
 }
+
+/// A document, how often its first signal is emitted, how the last emission ends, what is noted in all, how many
+/// statements are left, and whether handlers are dropped.
+const EMITTED: &[(&str, u32, Ran, &str, u32, bool)] = &[
+    // 64 handlers in each other, and one more
+    (
+        "Item { signal s; property int d: 0; onS: { d += 1; if (d < 64) s() } }",
+        1,
+        Ran::Ended,
+        "",
+        99_745,
+        false,
+    ),
+    (
+        "Item { signal s; property int d: 0; onS: { d += 1; if (d < 65) s() } }",
+        1,
+        Ran::TooDeep,
+        "Main.qml:1:37: handler limit\n",
+        99_744,
+        true,
+    ),
+    // change handlers and methods nest too
+    (
+        "Item { signal s; property int d: 0; onS: f(); function f() { d++ } onDChanged: if (d < 31) f() }",
+        1,
+        Ran::Ended,
+        "",
+        99_907,
+        false,
+    ),
+    (
+        "Item { signal s; property int d: 0; onS: f(); function f() { d++ } onDChanged: if (d < 32) f() }",
+        1,
+        Ran::TooDeep,
+        "Main.qml:1:68: handler limit\n",
+        99_905,
+        true,
+    ),
+    // where it is met, every handler that is running ends, and no further one runs
+    (
+        "Item { signal s; onS: { s(); console.log('never') } onS: console.log('never') }",
+        2,
+        Ran::Ended,
+        "Main.qml:1:18: handler limit\n",
+        99_872,
+        true,
+    ),
+    // 100,000 statements, and one more
+    (
+        "Item { signal s; onS: { for (var i = 0; i < 49998; i++) ; ; } }",
+        1,
+        Ran::Ended,
+        "",
+        0,
+        false,
+    ),
+    (
+        "Item { signal s; onS: { for (var i = 0; i < 49998; i++) ; ; ; console.log('never') } }",
+        1,
+        Ran::Budget,
+        "Main.qml:1:18: statement limit\n",
+        0,
+        true,
+    ),
+    (
+        "Item { signal s; onS: { for (var i = 0; i < 49998; i++) ; ; } onS: console.log('never') }",
+        1,
+        Ran::Budget,
+        "Main.qml:1:63: statement limit\n",
+        0,
+        true,
+    ),
+    // over several emissions of one move
+    (
+        "Item { signal s; onS: for (var i = 0; i < 24999; i++) ; }",
+        2,
+        Ran::Ended,
+        "",
+        0,
+        false,
+    ),
+    (
+        "Item { signal s; onS: for (var i = 0; i < 24999; i++) ; }",
+        3,
+        Ran::Budget,
+        "Main.qml:1:18: statement limit\n",
+        0,
+        true,
+    ),
+    (
+        "Item { signal s; onS: for (var i = 0; i < 24999; i++) ; }",
+        4,
+        Ran::Ended,
+        "Main.qml:1:18: statement limit\n",
+        0,
+        true,
+    ),
+];
+
+// Whether so many emissions end so.
+fn emits_so(
+    alloc: Global,
+    text: &str,
+    count: u32,
+    ran: Ran,
+    notes: &str,
+    left: u32,
+    dropped: bool,
+) -> Result<bool, DocFault> {
+    let mut world = started(alloc, NONE, text)?;
+    let mut last = Ran::Ended;
+    for _ in 0..count {
+        last = world.emit(alloc, 2, 0, &[])?;
+    }
+    let told = taken_notes(alloc, &mut world)?;
+    let is_left = world.left == left && world.dropped == dropped;
+    Ok(last == ran && told.as_str() == notes && is_left)
+}
+
+#[test]
+fn emissions_end_at_limits(rt: HostRuntime) -> Result<(), Fail> {
+    for (text, count, ran, notes, left, dropped) in EMITTED {
+        assert!(rt;
+            emits_so(rt.alloc(), text, *count, *ran, notes, *left, *dropped)?,
+            "{text}"
+        );
+    }
+    Ok(())
+}

@@ -47,3 +47,41 @@ fn values_are_logged(rt: HostRuntime) -> Result<(), Fail> {
     }
     Ok(())
 }
+
+/// Arguments, and how many bytes of a line they make; 0 where the line would be too long. The text `t` has 32,768
+/// bytes, and `u` one less.
+const LONG: &[(&str, usize)] = &[
+    ("t + t", 65_536),
+    ("t + u", 65_535),
+    ("t, u", 65_536),
+    ("u, t", 65_536),
+    ("u, u", 65_535),
+    ("t, u, ''", 0),
+    ("t, t", 0),
+    ("t + t, ''", 0),
+    ("'', t + u", 65_536),
+    ("'', t + t", 0),
+    ("t + t + 'a'", 0),
+];
+
+// Whether the line has that length, with the mark before it and its end; or is told to be too long.
+fn is_as_long(alloc: Global, arguments: &str, length: usize) -> Result<bool, DocFault> {
+    let text = format!(in alloc;
+        "Item {{ property string u: 'aaaaaaa'; property string t\nComponent.onCompleted: {{ t = 'a' + u; \
+        for (var i = 0; i < 12; i++) {{ u = t + u; t += t }} console.log({arguments}) }} }}"
+    )?;
+    let line = notes(alloc, NONE, text.as_str())?;
+    Ok(if length > 0 {
+        line.len() == 5 + length + 1
+    } else {
+        line.as_str() == "Main.qml:2:1: evaluation fault: text too long\n"
+    })
+}
+
+#[test]
+fn lines_have_a_longest(rt: HostRuntime) -> Result<(), Fail> {
+    for (arguments, length) in LONG {
+        assert!(rt; is_as_long(rt.alloc(), arguments, *length)?, "{arguments}");
+    }
+    Ok(())
+}

@@ -4,6 +4,8 @@ ghost use Rattle.scene.specs.Picture.{Item};
 ghost use Rattle.sync_tests.specs.Staged.{IsReordered, IsLastLeaf};
 
 use item_geometry::Rects;
+use node_raster::{raster, standing_nodes_are_shallow};
+use rect_raster::{Canvas, ClipRect, fill};
 use scene::{Children, Paint, Scene};
 use sg_nodes::Nodes;
 use sg_standing::{changes_agree, new_nodes_agree};
@@ -42,6 +44,10 @@ impl Model for Stage {
 #[derive(Clone, Copy)]
 pub struct Look {
     pub x: i32,
+    pub y: i32,
+    pub w: i32,
+    pub h: i32,
+    pub clip: bool,
     pub shown: bool,
     pub rects: Rects,
     /// How many children come under the rectangles, or all where there are fewer.
@@ -57,10 +63,10 @@ fn paint(look: Look, children: Children) -> Paint
     let under = look.under.min(children.len());
     Paint {
         x: look.x,
-        y: 0,
-        w: 10,
-        h: 10,
-        clip: false,
+        y: look.y,
+        w: look.w,
+        h: look.h,
+        clip: look.clip,
         shown: look.shown,
         rects: look.rects,
         children,
@@ -108,6 +114,22 @@ fn with_child(alloc: Global, paint: &Paint, child: u64) -> Result<Paint, AllocEr
         rects: paint.rects,
         under: paint.under,
     })
+}
+
+/// A canvas that shows one colour.
+fn coloured(alloc: Global, w: u32, h: u32, argb: u32) -> Result<Canvas, AllocError>
+    ensures width { IfOk result (λ canvas. canvas.width ≡ w) }
+    ensures height { IfOk result (λ canvas. canvas.height ≡ h) }
+{
+    let mut canvas = Canvas::new(alloc, w, h)?;
+    let all = ClipRect {
+        left: 0,
+        top: 0,
+        right: i64::from(w),
+        bottom: i64::from(h),
+    };
+    fill(&mut canvas, all, argb);
+    Ok(canvas)
 }
 
 /// The last child of a parent, where it has no children itself.
@@ -187,6 +209,33 @@ impl Stage {
                 deepest,
             },
             synced,
+        ))
+    }
+
+    /// Brings the nodes in step, and draws them on a canvas of a size that showed one colour.
+    pub fn drawn(
+        self,
+        alloc: Global,
+        w: u32,
+        h: u32,
+        before: u32,
+    ) -> Result<(Stage, Canvas), AllocError> {
+        let Stage {
+            mut nodes,
+            mut scene,
+            deepest,
+        } = self;
+        let _synced = sync(alloc, &mut nodes, &mut scene)?;
+        let mut canvas = coloured(alloc, w, h, before)?;
+        standing_nodes_are_shallow();
+        raster(&nodes, w, h, &mut canvas);
+        Ok((
+            Stage {
+                nodes,
+                scene,
+                deepest,
+            },
+            canvas,
         ))
     }
 

@@ -23,6 +23,10 @@ fn border() -> Rects {
 fn bare(x: i32) -> Look {
     Look {
         x,
+        y: 0,
+        w: 10,
+        h: 10,
+        clip: false,
         shown: true,
         rects: Rects::Zero,
         under: 0,

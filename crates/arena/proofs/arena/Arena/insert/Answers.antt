@@ -1,7 +1,7 @@
-use Rattle.std.proofs.Common.{◌≡◌, ◌+◌, ◌∙◌, List, [], ◌∷◌, ◌++◌, Option, None, Some, ap, sym, subst}
+use Rattle.std.proofs.Common.{◌≡◌, ◌+◌, ◌∙◌, List, [], ◌∷◌, ◌++◌, Option, ap, sym, subst}
 use Rattle.arena.specs.Arena.{Arena, with_next}
 use Rattle.arena.specs.Slots.{slot_at, things, IsHeld}
-use Rattle.arena.proofs.Slots.{OnlyAt, arena, inserted_held, inserted_things}
+use Rattle.arena.proofs.Slots.{arena, inserted_held, inserted_things}
 use Rattle.arena.proofs.arena.Arena.insert.Goals as goal
 
 pub invariant_of-self-2 : goal.invariant_of-self-2

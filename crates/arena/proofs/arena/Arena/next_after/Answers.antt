@@ -1,4 +1,4 @@
-use Rattle.std.proofs.Common.{◌≡◌, ◌∙◌, ℕ, Option, None, Some, option_copied, ap, sym, subst}
+use Rattle.std.proofs.Common.{◌≡◌, ◌∙◌, None, Some, option_copied, ap, sym, subst}
 use Rattle.std.specs.Ordering.{nat_cmp, is_lt}
 use Rattle.arena.specs.Arena.{Arena, next_above}
 use Rattle.arena.proofs.Slots.{none_above, one_above, lost_above}

@@ -1,4 +1,4 @@
-use Rattle.std.proofs.Common.{◌≡◌, ◌∙◌, Option, None, ap, sym, subst}
+use Rattle.std.proofs.Common.{◌≡◌, ◌∙◌, None, ap, sym, subst}
 use Rattle.arena.specs.Arena.{Arena, thing_at, without}
 use Rattle.arena.specs.Slots.{things}
 use Rattle.arena.proofs.Slots.{arena, got, got_none, removed_held, removed_things, unremoved_things}

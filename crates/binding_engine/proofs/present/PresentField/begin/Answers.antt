@@ -1,7 +1,15 @@
-use Rattle.std.proofs.Common.{◌∙◌, ap}
+use Rattle.std.proofs.Common.{sym, subst, ◌∙◌, ap}
 use Rattle.binding_engine.specs.Entries.{Entries}
+use Rattle.binding_engine.specs.Progress.{AreMet}
 use Rattle.binding_engine.proofs.Moves.{begins}
+use Rattle.binding_engine.proofs.Onward.{met_begun}
 use Rattle.binding_engine.proofs.present.PresentField.begin.Goals as goal
+
+pub invariant_of-self : goal.invariant_of-self
+invariant_of-self c = record {
+  met = subst (λ (es : Entries). AreMet (c.args.self.now.objects.now, es) c.args.self.now.waiting.items) (sym c.begin.ensures)
+      (met_begun (c.args.self.now.objects.now, c.args.self.now.cells) c.args.place c.args.self.now.waiting.items c.args.self.now.met c.requires);
+}
 
 pub returns-clause-state : goal.returns-clause-state
 returns-clause-state c =
