@@ -72,7 +72,7 @@ fn is_as_long(alloc: Global, arguments: &str, length: usize) -> Result<bool, Doc
     )?;
     let line = notes(alloc, NONE, text.as_str())?;
     Ok(if length > 0 {
-        line.len() == 5 + length + 1
+        line.len().saturating_sub(6) == length
     } else {
         line.as_str() == "Main.qml:2:1: evaluation fault: text too long\n"
     })
