@@ -85,6 +85,15 @@ def seconds(folder, name, expected):
     return took
 
 
+def least_seconds(folder, said, runs):
+    """The least seconds of so many runs of each document, which is to say just that on standard error.
+
+    The documents take turns, so that a while in which the machine has other work doesn't fall on one of them alone.
+    """
+    turns = [{name: seconds(folder, name, line) for name, line in said.items()} for _ in range(runs)]
+    return {name: min(turn[name] for turn in turns) for name in said}
+
+
 def peak_memory(folder, name):
     """The program's peak memory in bytes, as the system told it last before the program ended.
 
