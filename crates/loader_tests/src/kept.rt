@@ -1,117 +1,97 @@
-//! What the cache keeps, and what is fetched over it.
+//! Fetches that fail, and what the cache keeps.
 
-use crate::store::{add_all, note, told};
-use outside::MemFiles;
-use std::alloc::{AllocError, Global};
+use crate::store::gives;
 use std::test::Fail;
-use type_loader::Cache;
 
-/// The files, what a first load of `Main.qml` gives, files that are added then, the next fetch that
-/// fails, and what a second load gives over the same cache.
-const TWICE: &[(&str, &str, &str, u64, &str)] = &[
+/// Four documents, each of which is fetched.
+const FOUR: &str = "Main.qml: Item { A { } B { } }\nA.qml: C { }\nB.qml: C { }\nC.qml: Item { }";
+
+/// What comes before each of some loads of `Main.qml` over the same cache, and what they give.
+const LOADS: &[(&[(&str, u64)], &str)] = &[
+    // A fetch that fails.
+    (&[(FOUR, 1)], "read fault"),
+    (&[(FOUR, 2)], "read fault"),
+    (&[(FOUR, 3)], "read fault"),
+    (&[(FOUR, 4)], "read fault"),
+    (&[(FOUR, 5)], "Main.qml A.qml B.qml C.qml "),
+    // After a failed fetch the document before it is kept.
+    (
+        &[("Main.qml: Item { A { } }\nA.qml: Item { }", 2), ("", 4)],
+        "read fault, Main.qml A.qml ",
+    ),
     // After a unit nothing is fetched.
     (
-        "Main.qml Item { A { } }\nA.qml Item { }",
-        "Main.qml A.qml ",
-        "",
-        3,
-        "Main.qml A.qml ",
+        &[("Main.qml: Item { A { } }\nA.qml: Item { }", 0), ("", 3)],
+        "Main.qml A.qml , Main.qml A.qml ",
     ),
     // A file that has changed is not seen.
     (
-        "Main.qml Item { A { } }\nA.qml Item { }",
-        "Main.qml A.qml ",
-        "A.qml #",
-        3,
-        "Main.qml A.qml ",
+        &[
+            ("Main.qml: Item { A { } }\nA.qml: Item { }", 0),
+            ("A.qml: #", 3),
+        ],
+        "Main.qml A.qml , Main.qml A.qml ",
     ),
     // After a missing file the others are kept, and it is fetched again.
     (
-        "Main.qml Item { A { } }\nA.qml X { }",
-        "A.qml: 1:1: unknown type",
-        "X.qml Item { }",
-        4,
-        "read fault",
+        &[
+            ("Main.qml: Item { A { } }\nA.qml: X { }", 0),
+            ("X.qml: Item { }", 4),
+        ],
+        "A.qml: 1:1: unknown type, read fault",
     ),
     (
-        "Main.qml Item { A { } }\nA.qml X { }",
-        "A.qml: 1:1: unknown type",
-        "X.qml Item { }",
-        5,
-        "Main.qml A.qml X.qml ",
+        &[
+            ("Main.qml: Item { A { } }\nA.qml: X { }", 0),
+            ("X.qml: Item { }", 5),
+        ],
+        "A.qml: 1:1: unknown type, Main.qml A.qml X.qml ",
     ),
     // After a bad text too.
     (
-        "Main.qml Item { A { } B { } }\nA.qml #\nB.qml Item { }",
-        "A.qml: 1:1: bad token",
-        "A.qml Item { }",
-        3,
-        "read fault",
+        &[
+            (
+                "Main.qml: Item { A { } B { } }\nA.qml: #\nB.qml: Item { }",
+                0,
+            ),
+            ("A.qml: Item { }", 3),
+        ],
+        "A.qml: 1:1: bad token, read fault",
     ),
     (
-        "Main.qml Item { A { } B { } }\nA.qml #\nB.qml Item { }",
-        "A.qml: 1:1: bad token",
-        "A.qml Item { }",
-        5,
-        "Main.qml A.qml B.qml ",
+        &[
+            (
+                "Main.qml: Item { A { } B { } }\nA.qml: #\nB.qml: Item { }",
+                0,
+            ),
+            ("A.qml: Item { }", 5),
+        ],
+        "A.qml: 1:1: bad token, Main.qml A.qml B.qml ",
     ),
     // After a cycle and after a fault of compiling all are kept.
     (
-        "Main.qml Item { A { } }\nA.qml A { }",
-        "A.qml: cycle",
-        "A.qml Item { }",
-        3,
-        "A.qml: cycle",
+        &[
+            ("Main.qml: Item { A { } }\nA.qml: A { }", 0),
+            ("A.qml: Item { }", 3),
+        ],
+        "A.qml: cycle, A.qml: cycle",
     ),
     (
-        "Main.qml Item { A { } }\nA.qml Item { foo: 1 }",
-        "A.qml: 1:8: unknown property",
-        "A.qml Item { }",
-        3,
-        "A.qml: 1:8: unknown property",
+        &[
+            ("Main.qml: Item { A { } }\nA.qml: Item { foo: 1 }", 0),
+            ("A.qml: Item { }", 3),
+        ],
+        "A.qml: 1:8: unknown property, A.qml: 1:8: unknown property",
     ),
 ];
 
-fn differing_twice(alloc: Global) -> Result<String, AllocError> {
-    let mut report = String::new(alloc);
-    for (lines, first, added, failing, second) in TWICE {
-        let mut files = MemFiles::new(alloc);
-        add_all(&mut files, lines)?;
-        let mut cache = Cache::new(alloc);
-        let found = told(alloc, &mut files, "Main.qml", &mut cache)?;
-        note(&mut report, lines, found.as_str(), first)?;
-        add_all(&mut files, added)?;
-        files.fail(*failing)?;
-        let again = told(alloc, &mut files, "Main.qml", &mut cache)?;
-        note(&mut report, lines, again.as_str(), second)?;
+#[test]
+fn failed_fetches_and_the_cache(rt: HostRuntime) -> Result<(), Fail> {
+    for (row, (steps, wanted)) in LOADS.iter().enumerate() {
+        assert!(rt;
+            gives(rt.alloc(), "Main.qml", steps, wanted)?,
+            "row {row}, {wanted}"
+        );
     }
-    Ok(report)
-}
-
-/// After a failed fetch the document before it is kept.
-fn after_a_failed_fetch(alloc: Global) -> Result<String, AllocError> {
-    let mut files = MemFiles::new(alloc);
-    add_all(&mut files, "Main.qml Item { A { } }\nA.qml Item { }")?;
-    files.fail(2)?;
-    let mut cache = Cache::new(alloc);
-    let mut lines = told(alloc, &mut files, "Main.qml", &mut cache)?;
-    files.fail(4)?;
-    lines.push_str(", ")?;
-    lines.push_str(told(alloc, &mut files, "Main.qml", &mut cache)?.as_str())?;
-    Ok(lines)
-}
-
-#[test]
-fn over_the_same_cache(rt: HostRuntime) -> Result<(), Fail> {
-    assert_eq!(rt; differing_twice(rt.alloc())?.as_str(), "");
-    Ok(())
-}
-
-#[test]
-fn over_the_cache_of_a_failed_fetch(rt: HostRuntime) -> Result<(), Fail> {
-    assert_eq!(rt;
-        after_a_failed_fetch(rt.alloc())?.as_str(),
-        "read fault, Main.qml A.qml "
-    );
     Ok(())
 }
