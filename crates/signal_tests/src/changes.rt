@@ -1,6 +1,6 @@
 //! Which handlers run after a write, and in which order.
 
-use crate::worlds::notes;
+use crate::worlds::{Step, passes};
 use std::test::Fail;
 
 /// What `A.qml` and `Main.qml` are, and what is noted where `Main.qml` starts.
@@ -101,9 +101,11 @@ const ROWS: &[(&str, &str, &str)] = &[
 
 #[test]
 fn changes_are_told_in_order(rt: HostRuntime) -> Result<(), Fail> {
-    for (first, text, wanted) in ROWS {
-        let notes = notes(rt.alloc(), first, text)?;
-        assert!(rt; notes.as_str() == *wanted, "{notes}");
+    for (first, text, notes) in ROWS {
+        assert!(rt;
+            passes(rt.alloc(), first, text, &[Step::Notes(notes)])?,
+            "{text}"
+        );
     }
     Ok(())
 }

@@ -1,6 +1,6 @@
 //! Faults of handlers and of what is bound.
 
-use crate::worlds::{NONE, notes};
+use crate::worlds::{NONE, Step, passes, passes_within};
 use qml_ast::DocFault;
 use std::alloc::Global;
 use std::test::Fail;
@@ -112,25 +112,25 @@ const STATEMENTS: &[(&str, &str)] = &[
     ("n = down(63); n = down(64)", "too much"),
 ];
 
-/// What is noted where a handler, which stands in the second line, runs that statement and another one.
-fn noted(alloc: Global, statement: &str) -> Result<String, DocFault> {
-    let text = format!(in alloc;
-        "Item {{ id: r; property int n: 1; property bool b; property string s; property color c; \
-        property Item o; readonly property int fixed: 4; signal hit(int k); signal paint(color k); function f(a) {{ return a }} \
-        function two() {{ ; return 1 }} function down(a) {{ return a == 0 ? 0 : down(a - 1) }}\n\
-        Component.onCompleted: {{ {statement}; console.log('never') }}\nComponent.onCompleted: console.log('next') }}"
-    )?;
-    notes(alloc, NONE, text.as_str())
+/// What stands before and behind the statement, whose handler is in the second line.
+const HANDLER: (&str, &str) = (
+    "Item { id: r; property int n: 1; property bool b; property string s; property color c; \
+    property Item o; readonly property int fixed: 4; signal hit(int k); signal paint(color k); function f(a) { return a } \
+    function two() { ; return 1 } function down(a) { return a == 0 ? 0 : down(a - 1) }\n\
+    Component.onCompleted: { ",
+    "; console.log('never') }\nComponent.onCompleted: console.log('next') }",
+);
+
+/// Whether that fault ends the statement's handler, and not the next one.
+fn ends_handler(alloc: Global, statement: &str, fault: &str) -> Result<bool, DocFault> {
+    let notes = format!(in alloc; "Main.qml:2:1: evaluation fault: {fault}\nqml: next\n")?;
+    passes_within(alloc, HANDLER, statement, &[Step::Notes(notes.as_str())])
 }
 
 #[test]
 fn statements_fault(rt: HostRuntime) -> Result<(), Fail> {
     for (statement, fault) in STATEMENTS {
-        let notes = noted(rt.alloc(), statement)?;
-        let wanted = format!(in rt.alloc();
-            "Main.qml:2:1: evaluation fault: {fault}\nqml: next\n"
-        )?;
-        assert!(rt; notes.as_str() == wanted.as_str(), "{statement}: {notes}");
+        assert!(rt; ends_handler(rt.alloc(), statement, fault)?, "{statement}");
     }
     Ok(())
 }
@@ -180,20 +180,24 @@ const EXPRESSIONS: &[(&str, &str, &str)] = &[
     ),
 ];
 
-/// A handler for each position, each in a line of its own.
-fn handlers(alloc: Global, expression: &str) -> Result<String, DocFault> {
-    let mut text = String::new(alloc);
-    for (before, behind) in POSITIONS {
-        text.push_str("Component.onCompleted: { ")?;
-        text.push_str(before)?;
-        text.push_str(expression)?;
-        text.push_str(behind)?;
-        text.push_str("; console.log('never') }\n")?;
+/// A document with a handler for each position, each in a line of its own, of which the first is the second line.
+fn document(alloc: Global, before: &str, expression: &str) -> Result<String, DocFault> {
+    let mut text = format!(in alloc;
+        "Item {{ id: r; property var v: 1; property Item o; property string long; signal hit(var k); \
+        onHit: console.log('never'); function f(a) {{ return a }} function down(a) {{ return a == 0 ? 0 : down(a - 1) }} \
+        Component.onCompleted: {{ {before} }}\n"
+    )?;
+    for (start, end) in POSITIONS {
+        let handler = format!(in alloc;
+            "Component.onCompleted: {{ {start}{expression}{end}; console.log('never') }}\n"
+        )?;
+        text.push_str(handler.as_str())?;
     }
+    text.push_str("Component.onCompleted: console.log('next', v) }")?;
     Ok(text)
 }
 
-/// That fault at the handler of each position, of which the first stands in the second line.
+/// That fault at the handler of each position, with nothing written before.
 fn faults(alloc: Global, fault: &str) -> Result<String, DocFault> {
     let mut told = String::new(alloc);
     let mut line: u32 = 1;
@@ -206,16 +210,11 @@ fn faults(alloc: Global, fault: &str) -> Result<String, DocFault> {
     Ok(told)
 }
 
-/// Whether that fault ends the handler in each position, with nothing written before.
+/// Whether that fault ends the handler in each position.
 fn faults_everywhere(alloc: Global, row: &(&str, &str, &str)) -> Result<bool, DocFault> {
-    let handlers = handlers(alloc, row.1)?;
-    let text = format!(in alloc;
-        "Item {{ id: r; property var v: 1; property Item o; property string long; signal hit(var k); \
-        onHit: console.log('never'); function f(a) {{ return a }} function down(a) {{ return a == 0 ? 0 : down(a - 1) }} \
-        Component.onCompleted: {{ {} }}\n{handlers}Component.onCompleted: console.log('next', v) }}",
-        row.0
-    )?;
-    Ok(notes(alloc, NONE, text.as_str())?.as_str() == faults(alloc, row.2)?.as_str())
+    let text = document(alloc, row.0, row.1)?;
+    let notes = faults(alloc, row.2)?;
+    passes(alloc, NONE, text.as_str(), &[Step::Notes(notes.as_str())])
 }
 
 #[test]
@@ -287,9 +286,11 @@ const DOCUMENTS: &[(&str, &str, &str)] = &[
 
 #[test]
 fn faults_are_noted(rt: HostRuntime) -> Result<(), Fail> {
-    for (first, text, wanted) in DOCUMENTS {
-        let notes = notes(rt.alloc(), first, text)?;
-        assert!(rt; notes.as_str() == *wanted, "{notes}");
+    for (first, text, notes) in DOCUMENTS {
+        assert!(rt;
+            passes(rt.alloc(), first, text, &[Step::Notes(notes)])?,
+            "{text}"
+        );
     }
     Ok(())
 }

@@ -1,9 +1,7 @@
 //! How far handlers may go, and what is dropped then.
 
-use crate::worlds::{NONE, started, taken_notes};
-use qml_ast::DocFault;
+use crate::worlds::{FIRST, NONE, Step, passes};
 use signals::{MOST_STATEMENTS, Ran};
-use std::alloc::Global;
 use std::test::Fail;
 
 /// A document, what is noted where it starts, how many statements are left then, and whether handlers are dropped.
@@ -48,48 +46,50 @@ const ROWS: &[(&str, &str, u32, bool)] = &[
     ),
 ];
 
-// Whether the document starts so.
-fn starts_so(
-    alloc: Global,
-    text: &str,
-    notes: &str,
-    left: u32,
-    dropped: bool,
-) -> Result<bool, DocFault> {
-    let mut world = started(alloc, NONE, text)?;
-    let told = taken_notes(alloc, &mut world)?;
-    Ok(told.as_str() == notes && world.left == left && world.dropped == dropped)
-}
-
 #[test]
 fn limits_are_met_at_both_sides(rt: HostRuntime) -> Result<(), Fail> {
     for (text, notes, left, dropped) in ROWS {
-        assert!(rt;
-            starts_so(rt.alloc(), text, notes, *left, *dropped)?,
-            "{text}"
-        );
+        let steps = [Step::Notes(notes), Step::Left(*left, *dropped)];
+        assert!(rt; passes(rt.alloc(), NONE, text, &steps)?, "{text}");
     }
     Ok(())
 }
 
-// Whether no handler runs once a limit was met, until a move begins.
-fn runs_again(alloc: Global) -> Result<bool, DocFault> {
-    let text = "Item { signal s; onS: console.log('s'); Component.onCompleted: while (true) ; }";
-    let mut world = started(alloc, NONE, text)?;
-    let dropped = world.emit(alloc, 2, 0, &[])? == Ran::Ended;
-    let told = taken_notes(alloc, &mut world)?;
-    world.begin_move();
-    let left = world.left == MOST_STATEMENTS;
-    let ran = world.emit(alloc, 2, 0, &[])? == Ran::Ended;
-    let told_again = taken_notes(alloc, &mut world)?;
-    let is_told = told.as_str() == "Main.qml:1:41: statement limit\n"
-        && told_again.as_str() == "qml: s\n";
-    Ok(dropped && left && ran && is_told)
-}
+/// A document, and the steps of two moves, in the first of which a limit is met.
+const MOVES: &[(&str, &[Step])] = &[
+    // no handler runs until the second begins
+    (
+        "Item { signal s; onS: console.log('s'); Component.onCompleted: while (true) ; }",
+        &[
+            Step::Emit(0, 1, &[], Ran::Ended),
+            Step::Notes("Main.qml:1:41: statement limit\n"),
+            Step::BeginMove,
+            Step::Left(MOST_STATEMENTS, false),
+            Step::Emit(0, 1, &[], Ran::Ended),
+            Step::Notes("qml: s\n"),
+        ],
+    ),
+    // a write settles nevertheless
+    (
+        "Item { property int n: 0; property int m: n * 2; onMChanged: while (true) ; onNChanged: console.log(n, m) }",
+        &[
+            Step::Write(FIRST, 1, Ran::Budget),
+            Step::Notes("qml: 1 2\nMain.qml:1:50: statement limit\n"),
+            Step::Write(FIRST, 2, Ran::Ended),
+            Step::Notes(""),
+            Step::Holds(FIRST, 2, false),
+            Step::BeginMove,
+            Step::Write(FIRST, 2, Ran::Ended),
+            Step::Left(MOST_STATEMENTS, false),
+        ],
+    ),
+];
 
 #[test]
 fn a_move_begins_anew(rt: HostRuntime) -> Result<(), Fail> {
-    assert!(rt; runs_again(rt.alloc())?);
+    for (text, steps) in MOVES {
+        assert!(rt; passes(rt.alloc(), NONE, text, steps)?, "{text}");
+    }
     Ok(())
 }
 
@@ -191,33 +191,15 @@ const EMITTED: &[(&str, u32, Ran, &str, u32, bool)] = &[
     ),
 ];
 
-// Whether so many emissions end so.
-fn emits_so(
-    alloc: Global,
-    text: &str,
-    count: u32,
-    ran: Ran,
-    notes: &str,
-    left: u32,
-    dropped: bool,
-) -> Result<bool, DocFault> {
-    let mut world = started(alloc, NONE, text)?;
-    let mut last = Ran::Ended;
-    for _ in 0..count {
-        last = world.emit(alloc, 2, 0, &[])?;
-    }
-    let told = taken_notes(alloc, &mut world)?;
-    let is_left = world.left == left && world.dropped == dropped;
-    Ok(last == ran && told.as_str() == notes && is_left)
-}
-
 #[test]
 fn emissions_end_at_limits(rt: HostRuntime) -> Result<(), Fail> {
     for (text, count, ran, notes, left, dropped) in EMITTED {
-        assert!(rt;
-            emits_so(rt.alloc(), text, *count, *ran, notes, *left, *dropped)?,
-            "{text}"
-        );
+        let steps = [
+            Step::Emit(0, *count, &[], *ran),
+            Step::Notes(notes),
+            Step::Left(*left, *dropped),
+        ];
+        assert!(rt; passes(rt.alloc(), NONE, text, &steps)?, "{text}");
     }
     Ok(())
 }

@@ -1,8 +1,6 @@
 //! What `console.log` writes.
 
-use crate::worlds::{NONE, notes};
-use qml_ast::DocFault;
-use std::alloc::Global;
+use crate::worlds::{Step, passes_within};
 use std::test::Fail;
 
 /// Arguments, and the line that is written of them.
@@ -30,20 +28,20 @@ const ROWS: &[(&str, &str)] = &[
     ),
 ];
 
-/// What a handler writes that calls `console.log` with these arguments.
-fn logged(alloc: Global, arguments: &str) -> Result<String, DocFault> {
-    let text = format!(in alloc;
-        "Item {{ id: r; property color c: '#010203'; property color d: '#0A0B0C0D'; \
-        property Item o; property var v; Component.onCompleted: console.log({arguments}) }}"
-    )?;
-    notes(alloc, NONE, text.as_str())
-}
+/// What stands before and behind the arguments.
+const LOGGED: (&str, &str) = (
+    "Item { id: r; property color c: '#010203'; property color d: '#0A0B0C0D'; \
+    property Item o; property var v; Component.onCompleted: console.log(",
+    ") }",
+);
 
 #[test]
 fn values_are_logged(rt: HostRuntime) -> Result<(), Fail> {
-    for (arguments, wanted) in ROWS {
-        let line = logged(rt.alloc(), arguments)?;
-        assert!(rt; line.as_str() == *wanted, "{line}");
+    for (arguments, line) in ROWS {
+        assert!(rt;
+            passes_within(rt.alloc(), LOGGED, arguments, &[Step::Notes(line)])?,
+            "{arguments}"
+        );
     }
     Ok(())
 }
@@ -64,24 +62,26 @@ const LONG: &[(&str, usize)] = &[
     ("t + t + 'a'", 0),
 ];
 
-// Whether the line has that length, with the mark before it and its end; or is told to be too long.
-fn is_as_long(alloc: Global, arguments: &str, length: usize) -> Result<bool, DocFault> {
-    let text = format!(in alloc;
-        "Item {{ property string u: 'aaaaaaa'; property string t\nComponent.onCompleted: {{ t = 'a' + u; \
-        for (var i = 0; i < 12; i++) {{ u = t + u; t += t }} console.log({arguments}) }} }}"
-    )?;
-    let line = notes(alloc, NONE, text.as_str())?;
-    Ok(if length > 0 {
-        line.len().saturating_sub(6) == length
-    } else {
-        line.as_str() == "Main.qml:2:1: evaluation fault: text too long\n"
-    })
-}
+/// What stands before and behind those arguments.
+const LONG_LOGGED: (&str, &str) = (
+    "Item { property string u: 'aaaaaaa'; property string t\nComponent.onCompleted: { t = 'a' + u; \
+    for (var i = 0; i < 12; i++) { u = t + u; t += t } console.log(",
+    ") } }",
+);
 
 #[test]
 fn lines_have_a_longest(rt: HostRuntime) -> Result<(), Fail> {
     for (arguments, length) in LONG {
-        assert!(rt; is_as_long(rt.alloc(), arguments, *length)?, "{arguments}");
+        // with the mark before it and its end
+        let step = if *length > 0 {
+            Step::NoteBytes(length.saturating_add(6))
+        } else {
+            Step::Notes("Main.qml:2:1: evaluation fault: text too long\n")
+        };
+        assert!(rt;
+            passes_within(rt.alloc(), LONG_LOGGED, arguments, &[step])?,
+            "{arguments}"
+        );
     }
     Ok(())
 }

@@ -1,9 +1,7 @@
 //! What the handlers of a MouseArea know of the mouse.
 
-use crate::worlds::{NONE, started, taken_notes};
-use qml_ast::{DocFault, Value};
-use signals::{HandlerRef, Ran};
-use std::alloc::Global;
+use crate::worlds::{Step, passes_within};
+use signals::Ran;
 use std::test::Fail;
 
 /// A statement of the handler of `clicked`, and what is noted where it is run with 3 and -4.
@@ -83,34 +81,26 @@ const HANDLED: &[(&str, &str)] = &[
 ];
 
 /// The document of an area, whose first handler, in the second line, is that of `clicked`.
-fn area(alloc: Global, statement: &str) -> Result<String, DocFault> {
-    Ok(format!(in alloc;
-        "MouseArea {{ id: area; property int n: 0; function f(a) {{ console.log(mouse) }}\nonClicked: {statement}\n\
-        onReleased: console.log('released', mouse.x, mouse.y); onNChanged: console.log('n', n) }}"
-    )?)
-}
-
-fn handles(alloc: Global, statement: &str, notes: &str) -> Result<bool, DocFault> {
-    let text = area(alloc, statement)?;
-    let mut world = started(alloc, NONE, text.as_str())?;
-    let ran = world.exec(
-        alloc,
-        HandlerRef {
-            serial: 2,
-            index: 0,
-        },
-        &[Value::Int(3), Value::Int(-4)],
-    )?;
-    Ok(ran == Ran::Ended && taken_notes(alloc, &mut world)?.as_str() == notes)
-}
+const AREA: (&str, &str) = (
+    "MouseArea { id: area; property int n: 0; function f(a) { console.log(mouse) }\nonClicked: ",
+    "\nonReleased: console.log('released', mouse.x, mouse.y); onNChanged: console.log('n', n) }",
+);
 
 #[test]
 fn handlers_know_the_mouse(rt: HostRuntime) -> Result<(), Fail> {
     for (statement, notes) in HANDLED {
-        assert!(rt; handles(rt.alloc(), statement, notes)?, "{statement}");
+        let steps = [Step::Exec(0, &[3, -4], Ran::Ended), Step::Notes(notes)];
+        assert!(rt;
+            passes_within(rt.alloc(), AREA, statement, &steps)?,
+            "{statement}"
+        );
     }
     Ok(())
 }
+
+/// The handlers of `clicked` where the area emits its signals.
+const CLICKED: &str =
+    "console.log('clicked', mouse.x, mouse.y)\nonClicked: console.log('clicked again', mouse.x)";
 
 /// The number of a signal of the area, where the mouse is, and what is noted where it is emitted.
 const EMITTED: &[(u32, i32, i32, &str)] = &[
@@ -125,19 +115,17 @@ const EMITTED: &[(u32, i32, i32, &str)] = &[
     (2, 7, 0, "qml: clicked 7 0\nqml: clicked again 7\n"),
 ];
 
-fn emits(alloc: Global, signal: u32, x: i32, y: i32, notes: &str) -> Result<bool, DocFault> {
-    let statement =
-        "console.log('clicked', mouse.x, mouse.y)\nonClicked: console.log('clicked again', mouse.x)";
-    let text = area(alloc, statement)?;
-    let mut world = started(alloc, NONE, text.as_str())?;
-    let ran = world.emit(alloc, 2, signal, &[Value::Int(x), Value::Int(y)])?;
-    Ok(ran == Ran::Ended && taken_notes(alloc, &mut world)?.as_str() == notes)
-}
-
 #[test]
 fn signals_of_the_mouse_are_emitted(rt: HostRuntime) -> Result<(), Fail> {
     for (signal, x, y, notes) in EMITTED {
-        assert!(rt; emits(rt.alloc(), *signal, *x, *y, notes)?, "{notes}");
+        let steps = [
+            Step::Emit(*signal, 1, &[*x, *y], Ran::Ended),
+            Step::Notes(notes),
+        ];
+        assert!(rt;
+            passes_within(rt.alloc(), AREA, CLICKED, &steps)?,
+            "{notes}"
+        );
     }
     Ok(())
 }

@@ -1,6 +1,6 @@
 //! Each form of statement.
 
-use crate::worlds::{NONE, notes};
+use crate::worlds::{NONE, Step, passes};
 use std::test::Fail;
 
 /// A document, and what is noted where it starts.
@@ -109,9 +109,11 @@ const ROWS: &[(&str, &str)] = &[
 
 #[test]
 fn statements_run(rt: HostRuntime) -> Result<(), Fail> {
-    for (text, wanted) in ROWS {
-        let notes = notes(rt.alloc(), NONE, text)?;
-        assert!(rt; notes.as_str() == *wanted, "{notes}");
+    for (text, notes) in ROWS {
+        assert!(rt;
+            passes(rt.alloc(), NONE, text, &[Step::Notes(notes)])?,
+            "{text}"
+        );
     }
     Ok(())
 }

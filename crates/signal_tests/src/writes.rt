@@ -1,10 +1,8 @@
 //! Writes of the machine and of handlers, and what they leave.
 
-use crate::worlds::{NONE, started, taken_notes};
-use object_tree::Objects;
-use qml_ast::{DocFault, Place, Side, Value};
-use signals::{HandlerRef, MOST_STATEMENTS, Ran, World};
-use std::alloc::Global;
+use crate::worlds::{FIRST, NONE, Step, passes, passes_within};
+use qml_ast::{Place, Side};
+use signals::Ran;
 use std::test::Fail;
 use type_table::item_slots::WIDTH;
 
@@ -20,13 +18,6 @@ struct Written {
     left: u32,
     dropped: bool,
 }
-
-// The root's first declared property is the slot 37.
-const FIRST: Place = Place {
-    serial: 2,
-    slot: 37,
-    side: Side::Shown,
-};
 
 const SET_WIDTH: Place = Place {
     serial: 2,
@@ -69,55 +60,22 @@ static WRITTEN: [Written; 8] = [
     written!("Item { property int n: 0; onNChanged: n = n + 1 }", FIRST, 1 => Ran::TooDeep, "Main.qml:1:27: handler limit\n", 65, 99_936, true),
 ];
 
-/// Whether a place holds that number, and is bound to nothing.
-fn holds_alone(objects: &Objects, place: Place, number: i32) -> bool {
-    match objects.value(place) {
-        Some(Value::Int(held)) => *held == number && objects.binding(place).is_none(),
-        _ => false,
-    }
-}
-
-fn is_left_so(world: &World, case: &Written) -> bool {
-    holds_alone(&world.objects, case.place, case.held)
-        && world.left == case.left
-        && world.dropped == case.dropped
-}
-
-fn writes(alloc: Global, case: &Written) -> Result<bool, DocFault> {
-    let mut world = started(alloc, NONE, case.text)?;
-    let _ = taken_notes(alloc, &mut world)?;
-    let ran = world.write(alloc, case.place, Value::Int(case.number))?;
-    let notes = taken_notes(alloc, &mut world)?;
-    Ok(ran == case.ran && notes.as_str() == case.notes && is_left_so(&world, case))
-}
-
 #[test]
 fn the_machine_writes(rt: HostRuntime) -> Result<(), Fail> {
     for case in &WRITTEN {
-        assert!(rt; writes(rt.alloc(), case)?, "{}", case.text);
+        let steps = [
+            Step::Notes(""),
+            Step::Write(case.place, case.number, case.ran),
+            Step::Notes(case.notes),
+            Step::Holds(case.place, case.held, false),
+            Step::Left(case.left, case.dropped),
+        ];
+        assert!(rt;
+            passes(rt.alloc(), NONE, case.text, &steps)?,
+            "{}",
+            case.text
+        );
     }
-    Ok(())
-}
-
-// Whether a write settles, and runs no handler, where a limit was met before in this move.
-fn settles_alone(alloc: Global) -> Result<bool, DocFault> {
-    let text =
-        "Item { property int n: 0; property int m: n * 2; onMChanged: while (true) ; onNChanged: console.log(n, m) }";
-    let mut world = started(alloc, NONE, text)?;
-    let spent = world.write(alloc, FIRST, Value::Int(1))?;
-    let _ = taken_notes(alloc, &mut world)?;
-    let dropped = world.write(alloc, FIRST, Value::Int(2))?;
-    let quiet = taken_notes(alloc, &mut world)?;
-    let is_settled = holds_alone(&world.objects, FIRST, 2);
-    world.begin_move();
-    let again = world.write(alloc, FIRST, Value::Int(2))?;
-    let is_new = world.left == MOST_STATEMENTS && again == Ran::Ended;
-    Ok(spent == Ran::Budget && dropped == Ran::Ended && quiet.is_empty() && is_settled && is_new)
-}
-
-#[test]
-fn writes_settle_after_a_limit(rt: HostRuntime) -> Result<(), Fail> {
-    assert!(rt; settles_alone(rt.alloc())?);
     Ok(())
 }
 
@@ -191,43 +149,23 @@ const ASSIGNED: &[(&str, &str, i32, bool)] = &[
     ),
 ];
 
-// Whether the first declared property holds that number, bound or not.
-fn holds(objects: &Objects, number: i32, bound: bool) -> bool {
-    match objects.value(FIRST) {
-        Some(Value::Int(held)) => *held == number && objects.binding(FIRST).is_some() == bound,
-        _ => false,
-    }
-}
-
-fn assigns(
-    alloc: Global,
-    statement: &str,
-    notes: &str,
-    number: i32,
-    bound: bool,
-) -> Result<bool, DocFault> {
-    let text = format!(in alloc;
-        "Item {{ property int n: 1 + 1; readonly property int fixed: 3; signal go; onNChanged: console.log('n', n); \
-        onFixedChanged: console.log('fixed'); onWidthChanged: console.log('width');\nonGo: {statement} }}"
-    )?;
-    let mut world = started(alloc, NONE, text.as_str())?;
-    let ran = world.exec(
-        alloc,
-        HandlerRef {
-            serial: 2,
-            index: 3,
-        },
-        &[],
-    )?;
-    let told = taken_notes(alloc, &mut world)?;
-    Ok(ran == Ran::Ended && told.as_str() == notes && holds(&world.objects, number, bound))
-}
+/// What stands before and behind the statement, whose handler is in the second line and the fourth of its object.
+const HANDLER: (&str, &str) = (
+    "Item { property int n: 1 + 1; readonly property int fixed: 3; signal go; onNChanged: console.log('n', n); \
+    onFixedChanged: console.log('fixed'); onWidthChanged: console.log('width');\nonGo: ",
+    " }",
+);
 
 #[test]
 fn handlers_write(rt: HostRuntime) -> Result<(), Fail> {
     for (statement, notes, number, bound) in ASSIGNED {
+        let steps = [
+            Step::Exec(3, &[], Ran::Ended),
+            Step::Notes(notes),
+            Step::Holds(FIRST, *number, *bound),
+        ];
         assert!(rt;
-            assigns(rt.alloc(), statement, notes, *number, *bound)?,
+            passes_within(rt.alloc(), HANDLER, statement, &steps)?,
             "{statement}"
         );
     }
