@@ -1,28 +1,38 @@
 //! The ends of the range in what anchors give: a number of 32 bits at each end, and one beyond it, which is a fault.
 
-use crate::makes::made;
-use crate::settles::holds;
-use binding_engine::{Engine, Settled, Writes};
-use object_tree::Objects;
-use qml_ast::{DocFault, EvalFault, Place, Side};
-use std::alloc::Global;
+use crate::makes::{Case, is_so};
+use crate::steps::{Find, Step};
+use qml_ast::{Place, Side};
 use std::test::Fail;
 use type_table::item_slots::{HEIGHT, WIDTH, X, Y};
 
-/// A document, a slot of its last item, of serial 4, and the number that it shows; none where that is beyond the range.
-struct End {
-    text: &'static str,
-    slot: u32,
-    shown: Option<i32>,
+/// A slot of the last item, of serial 4.
+macro_rules! at {
+    ($slot:expr) => {
+        Place {
+            serial: 4,
+            slot: $slot,
+            side: Side::Shown,
+        }
+    };
 }
 
-/// The item of serial 4, beside a sibling of which that is told, and tied by these anchors.
+/// The item of serial 4, beside a sibling of which that is told, and tied by these anchors; a slot of it, and the number
+/// that this shows, none where that is beyond the range.
 macro_rules! end {
-    ([$($sibling:expr),+], [$($anchors:expr),+], $slot:expr => $shown:expr) => {
-        End {
+    ([$($sibling:expr),+], [$($anchors:expr),+], $slot:expr => Some($shown:expr)) => {
+        end!([$($sibling),+], [$($anchors),+], $slot, $shown, false)
+    };
+    ([$($sibling:expr),+], [$($anchors:expr),+], $slot:expr => None) => {
+        end!([$($sibling),+], [$($anchors),+], $slot, 0, true)
+    };
+    ([$($sibling:expr),+], [$($anchors:expr),+], $slot:expr, $shown:expr, $overflows:literal) => {
+        Case {
             text: concat!("Item { Item { id: s; ", $($sibling),+, " } Item { anchors { ", $($anchors),+, " } } }"),
-            slot: $slot,
-            shown: $shown,
+            steps: &[
+                Step::Settle(&[Find::Overflows(at!($slot), $overflows)]),
+                Step::Numbers(&[(at!($slot), $shown)]),
+            ],
         }
     };
 }
@@ -97,36 +107,14 @@ macro_rules! ends {
     };
 }
 
-static ACROSS: [End; 52] = ends!("x", "width", "left", "right", "horizontalCenter", X, WIDTH);
+static ACROSS: [Case; 52] = ends!("x", "width", "left", "right", "horizontalCenter", X, WIDTH);
 
-static DOWNWARDS: [End; 52] = ends!("y", "height", "top", "bottom", "verticalCenter", Y, HEIGHT);
-
-fn is_shown(objects: &Objects, settled: &Settled, place: Place, shown: Option<i32>) -> bool {
-    let faulted = settled
-        .faulted
-        .iter()
-        .any(|fault| fault.0 == place && fault.1 == EvalFault::Overflow);
-    match shown {
-        Some(number) => holds(objects, place, number) && !faulted,
-        None => holds(objects, place, 0) && faulted,
-    }
-}
-
-fn ends_so(alloc: Global, case: &End) -> Result<bool, DocFault> {
-    let place = Place {
-        serial: 4,
-        slot: case.slot,
-        side: Side::Shown,
-    };
-    let mut objects = made(alloc, case.text)?;
-    let settled = Engine::new().settle(alloc, &mut objects, &Writes::new(alloc))?;
-    Ok(is_shown(&objects, &settled, place, case.shown))
-}
+static DOWNWARDS: [Case; 52] = ends!("y", "height", "top", "bottom", "verticalCenter", Y, HEIGHT);
 
 #[test]
 fn anchors_reach_the_ends_of_the_range(rt: HostRuntime) -> Result<(), Fail> {
     for case in ACROSS.iter().chain(&DOWNWARDS) {
-        assert!(rt; ends_so(rt.alloc(), case)?, "{}", case.text);
+        assert!(rt; is_so(rt.alloc(), case)?, "{}", case.text);
     }
     Ok(())
 }

@@ -1,27 +1,35 @@
 //! What items show by their anchors, their parents and their children.
 
-use crate::makes::made;
-use crate::settles::holds;
-use binding_engine::{Engine, Ignored, Settled, Writes};
-use object_tree::Objects;
-use qml_ast::{DocFault, EvalFault, Place, Side, Value};
-use std::alloc::Global;
+use crate::makes::{Case, is_so};
+use crate::steps::{Find, Step};
+use qml_ast::{EvalFault, Place, Side};
 use std::test::Fail;
 use type_table::item_slots::*;
 
-/// A document in which an object of that serial shows these numbers: x, y, width and height.
-struct Stands {
-    text: &'static str,
-    serial: u64,
-    numbers: [i32; 4],
+macro_rules! at {
+    ($serial:literal, $slot:expr) => {
+        Place {
+            serial: $serial,
+            slot: $slot,
+            side: Side::Shown,
+        }
+    };
 }
 
+/// A document in which an object of that serial shows these numbers: x, y, width and height.
 macro_rules! stands {
-    ($text:literal, $serial:literal => $x:literal, $y:literal, $width:literal, $height:literal) => {
-        Stands {
+    ($text:expr, $serial:literal => $x:literal, $y:literal, $width:literal, $height:literal) => {
+        Case {
             text: $text,
-            serial: $serial,
-            numbers: [$x, $y, $width, $height],
+            steps: &[
+                Step::Settle(&[]),
+                Step::Numbers(&[
+                    (at!($serial, X), $x),
+                    (at!($serial, Y), $y),
+                    (at!($serial, WIDTH), $width),
+                    (at!($serial, HEIGHT), $height),
+                ]),
+            ],
         }
     };
 }
@@ -29,20 +37,17 @@ macro_rules! stands {
 /// The item of serial 4, of 7 by 9, in a parent of 100 by 60, beside a sibling at 10, 5 of 21 by 11.
 macro_rules! anchored {
     ($anchors:literal => $x:literal, $y:literal, $width:literal, $height:literal) => {
-        Stands {
-            text: concat!(
+        stands!(
+            concat!(
                 "Item { width: 100; height: 60; Item { id: s; x: 10; y: 5; width: 21; height: 11 } ",
                 "Item { width: 7; height: 9; anchors { ",
                 $anchors,
                 " } } }"
-            ),
-            serial: 4,
-            numbers: [$x, $y, $width, $height],
-        }
+            ), 4 => $x, $y, $width, $height)
     };
 }
 
-static STANDS: [Stands; 30] = [
+static STANDS: [Case; 30] = [
     anchored!("fill: parent" => 0, 0, 100, 60),
     anchored!("fill: s" => 10, 5, 21, 11),
     // a margin is its own where that is set, and 0 is
@@ -90,70 +95,31 @@ static STANDS: [Stands; 30] = [
     stands!("Item { width: childrenRect.width; Item { anchors.fill: parent } }", 2 => 0, 0, 0, 0),
 ];
 
-fn shown(serial: u64, slot: u32) -> Place {
-    Place {
-        serial,
-        slot,
-        side: Side::Shown,
-    }
-}
-
-fn shows(objects: &Objects, case: &Stands) -> bool {
-    [X, Y, WIDTH, HEIGHT].iter().zip(&case.numbers).all(|(slot, number)| holds(
-        objects,
-        shown(case.serial, *slot),
-        *number,
-    ))
-}
-
-fn has_stood(alloc: Global, case: &Stands) -> Result<bool, DocFault> {
-    let mut objects = made(alloc, case.text)?;
-    Engine::new().settle(alloc, &mut objects, &Writes::new(alloc))?;
-    Ok(shows(&objects, case))
-}
-
 #[test]
 fn items_stand_by_their_anchors(rt: HostRuntime) -> Result<(), Fail> {
     for case in &STANDS {
-        let stands = has_stood(rt.alloc(), case)?;
-        assert!(rt; stands);
+        assert!(rt; is_so(rt.alloc(), case)?, "{}", case.text);
     }
     Ok(())
 }
 
 /// A document, whether its last object, of that serial, is visible and enabled, the faults that are found, and the
-/// anchors that count for nothing.
-struct Found {
-    text: &'static str,
-    serial: u64,
-    flags: [bool; 2],
-    faults: &'static [(Place, EvalFault)],
-    ignored: &'static [(Place, bool)],
-}
-
-macro_rules! at {
-    ($serial:literal, $slot:expr) => {
-        Place {
-            serial: $serial,
-            slot: $slot,
-            side: Side::Shown,
-        }
-    };
-}
-
+/// anchors that count for nothing. What is found is found once: a second settle tells no fault and no anchor again.
 macro_rules! found {
     ($text:literal, $serial:literal => $visible:literal, $enabled:literal, $faults:expr, $ignored:expr) => {
-        Found {
+        Case {
             text: $text,
-            serial: $serial,
-            flags: [$visible, $enabled],
-            faults: $faults,
-            ignored: $ignored,
+            steps: &[
+                Step::Settle(&[Find::Faults($faults), Find::Ignored($ignored)]),
+                Step::Settle(&[Find::Faults(&[]), Find::Ignored(&[])]),
+                Step::Flag(at!($serial, VISIBLE), $visible),
+                Step::Flag(at!($serial, ENABLED), $enabled),
+            ],
         }
     };
 }
 
-static FOUND: [Found; 13] = [
+static FOUND: [Case; 13] = [
     found!("Item { Item { } }", 3 => true, true, &[], &[]),
     found!("Item { visible: false; Item { Item { } } }", 4 => false, true, &[], &[]),
     found!("Item { enabled: false; Item { visible: false; Item { visible: true } } }", 4 => false, false, &[], &[]),
@@ -180,47 +146,10 @@ static FOUND: [Found; 13] = [
     found!("Item { property Item o: Item { id: a; Item { } anchors.left: a.left } }", 3 => true, true, &[], &[(at!(3, ANCHORS_LEFT), false)]),
 ];
 
-fn is_flag(objects: &Objects, place: Place, flag: bool) -> bool {
-    match objects.value(place) {
-        Some(Value::Bool(held)) => *held == flag,
-        _ => false,
-    }
-}
-
-fn has_flags(objects: &Objects, case: &Found) -> bool {
-    let [visible, enabled] = case.flags;
-    is_flag(objects, shown(case.serial, VISIBLE), visible)
-        && is_flag(objects, shown(case.serial, ENABLED), enabled)
-}
-
-fn are_ignored(found: &[Ignored], ignored: &[(Place, bool)]) -> bool {
-    found.len() == ignored.len()
-        && found
-            .iter()
-            .zip(ignored)
-            .all(|(a, b)| a.place == b.0 && a.center == b.1)
-}
-
-fn is_found(settled: &Settled, case: &Found) -> bool {
-    settled.faulted.as_slice() == case.faults
-        && are_ignored(settled.ignored.as_slice(), case.ignored)
-}
-
-/// What is found is found once: a second settle tells no fault and no anchor again.
-fn finds(alloc: Global, case: &Found) -> Result<bool, DocFault> {
-    let mut objects = made(alloc, case.text)?;
-    let mut engine = Engine::new();
-    let first = engine.settle(alloc, &mut objects, &Writes::new(alloc))?;
-    let second = engine.settle(alloc, &mut objects, &Writes::new(alloc))?;
-    let is_quiet = second.faulted.is_empty() && second.ignored.is_empty();
-    Ok(has_flags(&objects, case) && is_found(&first, case) && is_quiet)
-}
-
 #[test]
 fn flags_faults_and_ignored_anchors(rt: HostRuntime) -> Result<(), Fail> {
     for case in &FOUND {
-        let finds = finds(rt.alloc(), case)?;
-        assert!(rt; finds);
+        assert!(rt; is_so(rt.alloc(), case)?, "{}", case.text);
     }
     Ok(())
 }

@@ -1,35 +1,36 @@
 //! When an anchor that counts for nothing is told: once, and again where it has counted in between.
 
-use crate::makes::made;
-use binding_engine::{Engine, Ignored, Writes};
-use object_tree::Objects;
-use qml_ast::{DocFault, Place, Side, Value};
-use std::alloc::Global;
+use crate::makes::{Case, is_so};
+use crate::steps::{Find, Step};
+use qml_ast::{Place, Side};
 use std::test::Fail;
 use type_table::item_slots::{ANCHORS_FILL, ANCHORS_HORIZONTAL_CENTER, ANCHORS_LEFT, ANCHORS_TOP};
 
 /// An anchor that is told, and whether it is the centre beside two tied lines.
 type Told = (Place, bool);
 
+/// The root's `n`. The root is of serial 2; its first declared property is the slot 37. Its children are 3, with 4 in it,
+/// and 5.
+const N: Place = Place {
+    serial: 2,
+    slot: 37,
+    side: Side::Shown,
+};
+
 /// What the last item of the root has beside its anchors, and which anchors are told at first, where the root's `n` is
 /// 0, and then at each number that `n` is set to.
-struct Case {
-    text: &'static str,
-    first: &'static [Told],
-    steps: &'static [(i32, &'static [Told])],
-}
-
-// The root is of serial 2; its first declared property is the slot 37. Its children are 3, with 4 in it, and 5.
 macro_rules! case {
-    ($anchors:literal => $first:expr, $steps:expr) => {
+    ($anchors:literal => $first:expr, &[$(($number:literal, $told:expr)),+]) => {
         Case {
             text: concat!(
                 "Item { id: r; property int n: 0; Item { id: a; Item { id: b } } Item { anchors { ",
                 $anchors,
                 " } } }"
             ),
-            first: $first,
-            steps: $steps,
+            steps: &[
+                Step::Settle(&[Find::Ignored($first)]),
+                $(Step::Write(N, $number, &[Find::Ignored($told)])),+
+            ],
         }
     };
 }
@@ -81,49 +82,10 @@ static CASES: [Case; 12] = [
     case!("fill: r.n == 1 ? null : parent; left: r.n == 2 ? parent.left : parent.top" => &[LEFT], &[(1, &[]), (2, &[]), (3, &[LEFT])]),
 ];
 
-fn are_told(found: &[Ignored], told: &[Told]) -> bool {
-    found.len() == told.len()
-        && found
-            .iter()
-            .zip(told)
-            .all(|(a, b)| a.place == b.0 && a.center == b.1)
-}
-
-// Whether a settle tells these anchors where the root's `n` is set to that number.
-fn tells(
-    alloc: Global,
-    engine: &mut Engine,
-    objects: &mut Objects,
-    step: &(i32, &[Told]),
-) -> Result<bool, DocFault> {
-    let place = Place {
-        serial: 2,
-        slot: 37,
-        side: Side::Shown,
-    };
-    let mut writes = Writes::new(alloc);
-    objects.set_own(place, Value::Int(step.0));
-    writes.push(place)?;
-    let settled = engine.settle(alloc, objects, &writes)?;
-    Ok(are_told(settled.ignored.as_slice(), step.1))
-}
-
-fn tells_all(alloc: Global, case: &Case) -> Result<bool, DocFault> {
-    let mut objects = made(alloc, case.text)?;
-    let mut engine = Engine::new();
-    let settled = engine.settle(alloc, &mut objects, &Writes::new(alloc))?;
-    let mut told = are_told(settled.ignored.as_slice(), case.first);
-    for step in case.steps {
-        told &= tells(alloc, &mut engine, &mut objects, step)?;
-    }
-    Ok(told)
-}
-
 #[test]
 fn an_ignored_anchor_is_told_when_it_comes_to_be(rt: HostRuntime) -> Result<(), Fail> {
     for case in &CASES {
-        let told = tells_all(rt.alloc(), case)?;
-        assert!(rt; told, "{}", case.text);
+        assert!(rt; is_so(rt.alloc(), case)?, "{}", case.text);
     }
     Ok(())
 }

@@ -12,4 +12,6 @@ mod makes;
 #[cfg(test)]
 mod settles;
 #[cfg(test)]
+mod steps;
+#[cfg(test)]
 mod writes;

@@ -1,26 +1,10 @@
 //! What documents come to once they are made and settled.
 
-use crate::makes::made;
-use binding_engine::{Engine, Settled, Writes};
-use object_tree::Objects;
-use qml_ast::{DocFault, EvalFault, Place, Side, Value};
-use settling::LoopFound;
-use std::alloc::Global;
+use crate::makes::{Case, is_so};
+use crate::steps::{Find, Loop, Step};
+use qml_ast::{EvalFault, Place, Side};
 use std::test::Fail;
 use type_table::item_slots::{CHILDREN_RECT_HEIGHT, CHILDREN_RECT_WIDTH, HEIGHT, WIDTH, X, Y};
-
-struct Loop {
-    place: Place,
-    chain: &'static [Place],
-}
-
-/// A document, what places of it hold, and the loops and the faults that are found.
-struct Case {
-    text: &'static str,
-    numbers: &'static [(Place, i32)],
-    loops: &'static [Loop],
-    faults: &'static [(Place, EvalFault)],
-}
 
 macro_rules! set {
     ($serial:expr, $slot:expr) => {
@@ -42,13 +26,15 @@ macro_rules! shown {
     };
 }
 
+/// A document, what places of it hold, and the loops and the faults that are found.
 macro_rules! case {
     ($text:literal => $numbers:expr, $loops:expr, $faults:expr) => {
         Case {
             text: $text,
-            numbers: $numbers,
-            loops: $loops,
-            faults: $faults,
+            steps: &[
+                Step::Settle(&[Find::Changed(&[]), Find::Loops($loops), Find::Faults($faults)]),
+                Step::Numbers($numbers),
+            ],
         }
     };
 }
@@ -132,40 +118,10 @@ static CASES: [Case; 25] = [
         &[found!(shown!(2, 37), &[shown!(2, 38), shown!(2, 39), shown!(2, 40), shown!(2, 41)])], &[]),
 ];
 
-/// Whether a place holds that number.
-pub fn holds(objects: &Objects, place: Place, number: i32) -> bool {
-    match objects.value(place) {
-        Some(Value::Int(held)) => *held == number,
-        _ => false,
-    }
-}
-
-fn are_loops(found: &[LoopFound<Place>], loops: &[Loop]) -> bool {
-    found.len() == loops.len()
-        && found.iter().zip(loops).all(|(a, b)| a.place == b.place && a.chain.as_slice() == b.chain)
-}
-
-fn is_found(settled: &Settled, case: &Case) -> bool {
-    settled.changed.is_empty()
-        && are_loops(settled.loops.as_slice(), case.loops)
-        && settled.faulted.as_slice() == case.faults
-}
-
-fn settles(alloc: Global, case: &Case) -> Result<bool, DocFault> {
-    let mut objects = made(alloc, case.text)?;
-    let settled = Engine::new().settle(alloc, &mut objects, &Writes::new(alloc))?;
-    let hold = case
-        .numbers
-        .iter()
-        .all(|(place, number)| holds(&objects, *place, *number));
-    Ok(hold && is_found(&settled, case))
-}
-
 #[test]
 fn documents_settle(rt: HostRuntime) -> Result<(), Fail> {
     for case in &CASES {
-        let settled = settles(rt.alloc(), case)?;
-        assert!(rt; settled, "{}", case.text);
+        assert!(rt; is_so(rt.alloc(), case)?, "{}", case.text);
     }
     Ok(())
 }

@@ -1,23 +1,10 @@
 //! What a settle makes of writes after an earlier settle.
 
-use crate::makes::made;
-use crate::settles::holds;
-use binding_engine::{Engine, Settled, Writes};
-use object_tree::Objects;
-use qml_ast::{DocFault, Place, Side, Value};
-use std::alloc::Global;
+use crate::makes::{Case, is_so};
+use crate::steps::{Find, Step};
+use qml_ast::{Place, Side};
 use std::test::Fail;
 use type_table::item_slots::{CHILDREN_RECT_WIDTH, CHILDREN_RECT_X, WIDTH, X, Y};
-
-/// A document; the place that is written, and the number; what places hold then, which of them show another value,
-/// and how many loops there are.
-struct Case {
-    text: &'static str,
-    written: (Place, i32),
-    numbers: &'static [(Place, i32)],
-    changed: &'static [Place],
-    loops: usize,
-}
 
 macro_rules! set {
     ($serial:expr, $slot:expr) => {
@@ -39,14 +26,17 @@ macro_rules! shown {
     };
 }
 
+/// A document; the place that is written, and the number; what places hold then, which of them show another value,
+/// and how many loops there are.
 macro_rules! case {
     ($text:literal, $written:expr, $number:literal => $numbers:expr, $changed:expr, $loops:literal) => {
         Case {
             text: $text,
-            written: ($written, $number),
-            numbers: $numbers,
-            changed: $changed,
-            loops: $loops,
+            steps: &[
+                Step::Settle(&[]),
+                Step::Write($written, $number, &[Find::Changed($changed), Find::LoopCount($loops)]),
+                Step::Numbers($numbers),
+            ],
         }
     };
 }
@@ -71,33 +61,10 @@ static CASES: [Case; 7] = [
     case!("Item { property int a: b; property int b: 3 }", shown!(2, 38), 3 => &[(shown!(2, 37), 3)], &[], 0),
 ];
 
-fn is_found(settled: &Settled, case: &Case) -> bool {
-    settled.changed.as_slice() == case.changed && settled.loops.len() == case.loops
-}
-
-fn have(objects: &Objects, numbers: &[(Place, i32)]) -> bool {
-    numbers
-        .iter()
-        .all(|(place, number)| holds(objects, *place, *number))
-}
-
-fn settles(alloc: Global, case: &Case) -> Result<bool, DocFault> {
-    let mut objects = made(alloc, case.text)?;
-    let mut engine = Engine::new();
-    let mut writes = Writes::new(alloc);
-    engine.settle(alloc, &mut objects, &writes)?;
-    let (place, number) = case.written;
-    objects.set_own(place, Value::Int(number));
-    writes.push(place)?;
-    let settled = engine.settle(alloc, &mut objects, &writes)?;
-    Ok(have(&objects, case.numbers) && is_found(&settled, case))
-}
-
 #[test]
 fn writes_settle(rt: HostRuntime) -> Result<(), Fail> {
     for case in &CASES {
-        let settled = settles(rt.alloc(), case)?;
-        assert!(rt; settled);
+        assert!(rt; is_so(rt.alloc(), case)?, "{}", case.text);
     }
     Ok(())
 }

@@ -3,12 +3,14 @@
 #![tactic(auto)]
 
 #[cfg(test)]
+mod found;
+#[cfg(test)]
 mod looks;
 #[cfg(test)]
 mod makes;
 #[cfg(test)]
 mod runs;
 #[cfg(test)]
-mod store;
+mod steps;
 #[cfg(test)]
-mod undoing;
+mod store;

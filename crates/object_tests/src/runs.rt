@@ -1,80 +1,86 @@
 //! What documents declare of an object to be run.
 
-use crate::makes::made;
-use expr_eval::Found;
+use crate::found::is_member;
+use crate::makes::{Case, held};
+use crate::steps::Step;
+use expr_eval::{Found, Frame};
 use object_tree::{Handler, Objects};
-use qml_ast::{DocFault, Name};
+use qml_ast::{DocFault, Path, Span};
 use std::alloc::{AllocError, Global};
 use std::test::Fail;
 
-const INNER: &str =
-    "MouseArea { signal hit(int a, string b); Component.onCompleted: { } onHit: { } \
-    function one(x) { return x + 1 } function two() { ; return 1 } }";
-
-const OUTER: &str =
-    "Item { onWidthChanged: { } A { signal far; onClicked: { } function three() { return } onFar: { } } }";
-
-// A handler, in words: its path, the context and the object in which its names are looked up, its file, and where
-// its path stands.
-fn told(alloc: Global, handler: Handler<'_>) -> Result<String, AllocError> {
-    let first = handler.path.first.as_str();
-    let (context, scope) = (handler.frame.context, handler.frame.scope);
-    let file = handler.component.get().file.as_str();
-    let span = handler.span;
-    match &handler.path.second {
-        Some(second) => {
-            let second = second.as_str();
-            format!(in alloc; "{first}.{second} {context} {scope} {file} {span}")
-        }
-        None => format!(in alloc; "{first} {context} {scope} {file} {span}"),
-    }
+/// A handler: its path, in which frame its names are looked up, and where its path stands.
+pub struct Run {
+    path: (&'static str, Option<&'static str>),
+    frame: Frame,
+    span: Span,
 }
 
-// The object, the number of handlers before the one that is sought, and the handler in words.
-const HANDLERS: &[(u64, u32, &str)] = &[
-    (2, 0, "onWidthChanged 1 2 Main.qml 1:8"),
-    (2, 1, "none"),
-    (3, 0, "Component.onCompleted 2 3 Main.qml 1:42"),
-    (3, 1, "onHit 2 3 Main.qml 1:69"),
-    (3, 2, "onClicked 1 3 Main.qml 1:44"),
-    (3, 3, "onFar 1 3 Main.qml 1:87"),
-    (3, 4, "none"),
-    (1, 0, "none"),
-    (9, 0, "none"),
-];
+/// A signal of the object 3: its number, its name, its arguments, and the names of its parameters, if a document
+/// declares them.
+pub struct Signal {
+    number: u32,
+    name: &'static str,
+    arity: usize,
+    params: &'static [&'static str],
+}
 
-// Whether that is the handler of that number.
-fn is_handler(alloc: Global, serial: u64, index: u32, wanted: &str) -> Result<bool, DocFault> {
-    let objects = made(alloc, INNER, OUTER)?;
+/// A method of the object 3: its number, its name, its arguments, its statements, and whether expressions can call it.
+pub struct Method {
+    number: u32,
+    name: &'static str,
+    arity: usize,
+    statements: usize,
+    is_callable: bool,
+}
+
+// Whether a path has these names.
+fn is_path(path: &Path, first: &str, second: Option<&str>) -> bool {
+    let is_second = match &path.second {
+        Some(name) => second == Some(name.as_str()),
+        None => second.is_none(),
+    };
+    path.first.as_str() == first && is_second
+}
+
+// Whether a handler is as it is said to be, in the document of the file `Main.qml`.
+fn is_run(handler: Handler<'_>, run: &Run) -> bool {
+    is_path(handler.path, run.path.0, run.path.1)
+        && handler.frame == run.frame
+        && handler.component.get().file.as_str() == "Main.qml"
+        && handler.span == run.span
+}
+
+// How many handlers an object has.
+fn handler_count(alloc: Global, objects: &Objects, serial: u64) -> Result<usize, AllocError> {
+    Ok(objects.handlers(alloc, serial)?.len())
+}
+
+/// Whether that is the object's handler after so many others.
+pub fn is_handler(
+    alloc: Global,
+    objects: &Objects,
+    serial: u64,
+    index: u32,
+    run: &Run,
+) -> Result<bool, DocFault> {
+    let count = handler_count(alloc, objects, serial)?;
     match objects.handler(serial, index) {
-        Some(handler) => {
-            let told = told(alloc, handler)?;
-            let count = objects.handlers(alloc, serial)?.len();
-            Ok(told.as_str() == wanted && (index as usize) < count)
-        }
-        None => {
-            let count = objects.handlers(alloc, serial)?.len();
-            Ok(wanted == "none" && count <= index as usize)
-        }
+        Some(handler) => Ok(is_run(handler, run) && (index as usize) < count),
+        None => Ok(false),
     }
 }
 
-#[test]
-fn handlers_stand_in_their_order(rt: HostRuntime) -> Result<(), Fail> {
-    for (serial, index, wanted) in HANDLERS {
-        assert!(rt; is_handler(rt.alloc(), *serial, *index, wanted)?);
-    }
-    Ok(())
+/// Whether an object has no more handlers than that.
+pub fn is_no_handler(
+    alloc: Global,
+    objects: &Objects,
+    serial: u64,
+    index: u32,
+) -> Result<bool, DocFault> {
+    let count = handler_count(alloc, objects, serial)?;
+    Ok(objects.handler(serial, index).is_none() && count <= index as usize)
 }
-
-// The number of the signal, its name, its arguments, and the names of its parameters, if a document declares them. The
-// first one has the name of a property too, and so no expression names it.
-const SIGNALS: &[(u32, &str, usize, &[&str])] = &[
-    (1, "released", 2, &[]),
-    (2, "clicked", 2, &[]),
-    (3, "hit", 2, &["a", "b"]),
-    (4, "far", 0, &[]),
-];
 
 // Whether the parameters of a signal have these names.
 fn are_params(objects: &Objects, signal: u32, names: &[&str]) -> bool {
@@ -90,44 +96,22 @@ fn are_params(objects: &Objects, signal: u32, names: &[&str]) -> bool {
     }
 }
 
-// Whether the object's signal of that name has that number, and is as it is said to be.
-fn is_signal(
-    alloc: Global,
-    number: u32,
-    name: &str,
-    arity: usize,
-    params: &[&str],
-) -> Result<bool, DocFault> {
-    if name.len() > 100 {
-        return Err(DocFault::NoMemory);
-    }
-    let objects = made(alloc, INNER, OUTER)?;
-    let found = objects.member(3, None, &Name::new(alloc, name)?);
-    let is_found = matches!(found, Found::Signal(3, at) if at == number);
+/// Whether the object's signal of that name has that number, and is as it is said to be.
+pub fn is_signal(alloc: Global, objects: &Objects, signal: &Signal) -> Result<bool, DocFault> {
+    let number = signal.number;
+    let is_found = is_member(alloc, objects, signal.name, Found::Signal(3, number))?;
     Ok(
         is_found
-            && objects.signal_name(3, number) == Some(name)
-            && objects.signal_arity(3, number) == Some(arity)
-            && are_params(&objects, number, params)
-            && objects.signal_name(3, 5).is_none()
-            && objects.signal_arity(3, 5).is_none(),
+            && objects.signal_name(3, number) == Some(signal.name)
+            && objects.signal_arity(3, number) == Some(signal.arity)
+            && are_params(objects, number, signal.params),
     )
 }
 
-#[test]
-fn signals_have_their_numbers(rt: HostRuntime) -> Result<(), Fail> {
-    for (number, name, arity, params) in SIGNALS {
-        assert!(rt; is_signal(rt.alloc(), *number, name, *arity, params)?);
-    }
-    Ok(())
+/// Whether the object has no signal of that number.
+pub fn is_no_signal(objects: &Objects, number: u32) -> bool {
+    objects.signal_name(3, number).is_none() && objects.signal_arity(3, number).is_none()
 }
-
-// The number of the method, its name, its arguments, its statements, and whether expressions can call it.
-const METHODS: &[(u32, &str, usize, usize, bool)] = &[
-    (0, "one", 1, 1, true),
-    (1, "two", 0, 2, false),
-    (2, "three", 0, 1, false),
-];
 
 // Whether the object's method of that number is as it is said to be.
 fn is_body(objects: &Objects, number: u32, statements: usize, is_callable: bool) -> bool {
@@ -141,33 +125,88 @@ fn is_body(objects: &Objects, number: u32, statements: usize, is_callable: bool)
     }
 }
 
-// Whether the object's method of that name has that number, and is as it is said to be.
-fn is_method(
-    alloc: Global,
-    number: u32,
-    name: &str,
-    arity: usize,
-    statements: usize,
-    is_callable: bool,
-) -> Result<bool, DocFault> {
-    if name.len() > 100 {
-        return Err(DocFault::NoMemory);
-    }
-    let objects = made(alloc, INNER, OUTER)?;
-    let found = objects.member(3, None, &Name::new(alloc, name)?);
-    let is_found = matches!(found, Found::Method(3, at) if at == number);
+/// Whether the object's method of that name has that number, and is as it is said to be.
+pub fn is_method(alloc: Global, objects: &Objects, method: &Method) -> Result<bool, DocFault> {
+    let number = method.number;
+    let is_found = is_member(alloc, objects, method.name, Found::Method(3, number))?;
     Ok(
         is_found
-            && objects.method_arity(3, number) == Some(arity)
-            && is_body(&objects, number, statements, is_callable)
-            && objects.method_arity(3, 3).is_none(),
+            && objects.method_arity(3, number) == Some(method.arity)
+            && is_body(objects, number, method.statements, method.is_callable),
     )
 }
 
+/// The handler of an object after so many others, by its path, the context and the object of its names, and its span.
+macro_rules! handler {
+    ($serial:literal, $index:literal => $first:literal, $second:expr, $context:literal, $scope:literal, $col:literal) => {
+        Step::Handler(
+            $serial,
+            $index,
+            Run {
+                path: ($first, $second),
+                frame: Frame {
+                    context: $context,
+                    scope: $scope,
+                },
+                span: Span { line: 1, col: $col },
+            },
+        )
+    };
+}
+
+macro_rules! signal {
+    ($number:literal => $name:literal, $arity:literal, $params:expr) => {
+        Step::Signal(Signal {
+            number: $number,
+            name: $name,
+            arity: $arity,
+            params: $params,
+        })
+    };
+}
+
+macro_rules! method {
+    ($number:literal => $name:literal, $arity:literal, $statements:literal, $is_callable:literal) => {
+        Step::Method(Method {
+            number: $number,
+            name: $name,
+            arity: $arity,
+            statements: $statements,
+            is_callable: $is_callable,
+        })
+    };
+}
+
+// The signal 1 has the name of a property too, and so no expression names it.
+static RUN: Case = Case {
+    first: "MouseArea { signal hit(int a, string b); Component.onCompleted: { } onHit: { } \
+        function one(x) { return x + 1 } function two() { ; return 1 } }",
+    text: "Item { onWidthChanged: { } A { signal far; onClicked: { } function three() { return } onFar: { } } }",
+    steps: &[
+        handler!(2, 0 => "onWidthChanged", None, 1, 2, 8),
+        Step::NoHandler(2, 1),
+        handler!(3, 0 => "Component", Some("onCompleted"), 2, 3, 42),
+        handler!(3, 1 => "onHit", None, 2, 3, 69),
+        handler!(3, 2 => "onClicked", None, 1, 3, 44),
+        handler!(3, 3 => "onFar", None, 1, 3, 87),
+        Step::NoHandler(3, 4),
+        Step::NoHandler(1, 0),
+        Step::NoHandler(9, 0),
+        signal!(1 => "released", 2, &[]),
+        signal!(2 => "clicked", 2, &[]),
+        signal!(3 => "hit", 2, &["a", "b"]),
+        signal!(4 => "far", 0, &[]),
+        Step::NoSignal(5),
+        method!(0 => "one", 1, 1, true),
+        method!(1 => "two", 0, 2, false),
+        method!(2 => "three", 0, 1, false),
+        Step::NoMethod(3),
+    ],
+};
+
 #[test]
-fn methods_have_their_numbers(rt: HostRuntime) -> Result<(), Fail> {
-    for (number, name, arity, statements, is_callable) in METHODS {
-        assert!(rt; is_method(rt.alloc(), *number, name, *arity, *statements, *is_callable)?);
-    }
+fn what_is_run_is_as_documents_declare_it(rt: HostRuntime) -> Result<(), Fail> {
+    let held = held(rt.alloc(), &RUN)?;
+    assert_eq!(rt; held, RUN.steps.len());
     Ok(())
 }
